@@ -1,0 +1,114 @@
+-- Laws of lists made index by index, and of lists whose front is written. Assumes nothing.
+use mathlib.Core.List.{List, [], _∷_, _++_, append-assoc}
+use mathlib.Core.Path.{_≡_, refl, sym, _∙_}
+use mathlib.Core.Logic.{⊎-elim}
+use Prim.Native.Nat.{ℕ, zero, suc, _+_, _-_, _≤_, _<_}
+use native.Mathlib.Nat.{eq-or-lt-of-le, le-of-suc-le-suc, not-suc-le-zero, add-sub-of-le}
+use native.Mathlib.Numerals.{add-one}
+use native.Mathlib.Omega.{arith}
+use lib.Dec.{ltb}
+use lib.ListN.{length, getD, set, take, drop, length-append, length-drop, take-append-drop, List·getD-append}
+use lib.Seq.{drop-cons, set-at, getD-at, getD-drop, getD-append-add, ext-getD}
+use borrow.Author.Tests.{ltb-true, ltb-false}
+use borrow.Table.Steps.{cases}
+use Rattle.words.specs.Tab.{tab, over}
+
+-- ---- f 0, f 1, .., f (n - 1)
+
+pub length-tab : (f : ℕ → ℕ) (n : ℕ) → length (tab f n) ≡ n
+unfolding tab
+length-tab f zero = refl
+length-tab f (suc n) = rw (length-append, length-tab f n) (omega arith)
+
+pub getD-tab : (f : ℕ → ℕ) (n i : ℕ) → i < n → getD (tab f n) i 0 ≡ f i
+unfolding tab
+getD-tab f zero i h = absurd (not-suc-le-zero h)
+getD-tab f (suc n) i h =
+    ⊎-elim
+    (λ e. rw e (getD-at (tab f n) (f n) [] 0 n (length-tab f n)))
+    (λ l. List·getD-append (tab f n) (f n ∷ []) 0 i (omega (arith, length-tab f n)) ∙ getD-tab f n i l)
+    (eq-or-lt-of-le (le-of-suc-le-suc h))
+
+-- one more element
+pub tab-more : (f : ℕ → ℕ) (n : ℕ) → tab f (n + 1) ≡ tab f n ++ (f n ∷ [])
+unfolding tab
+tab-more f n = rw add-one
+
+-- a list is the one that its elements say
+pub tab-is : (f : ℕ → ℕ) (n : ℕ) (l : List ℕ) → length l ≡ n → ((i : ℕ) → i < n → getD l i 0 ≡ f i) → l ≡ tab f n
+tab-is f n l e h =
+    ext-getD 0 l (tab f n) (e ∙ sym (length-tab f n)) (λ i b. h i (omega arith) ∙ sym (getD-tab f n i (omega arith)))
+
+pub tab-same : (f g : ℕ → ℕ) (n : ℕ) → ((i : ℕ) → i < n → f i ≡ g i) → tab f n ≡ tab g n
+tab-same f g n e = tab-is g n (tab f n) (length-tab f n) (λ i h. getD-tab f n i h ∙ e i h)
+
+-- ---- w, then the rest of l as it was
+
+pub over-none : (l : List ℕ) → over [] l ≡ l
+unfolding over
+over-none l = refl
+
+module _ (w l : List ℕ) where
+  pub length-over : length w ≤ length l → length (over w l) ≡ length l
+  unfolding over
+  length-over h = rw (length-append, length-drop) (omega arith)
+
+  pub getD-over : (i : ℕ) → i < length w → getD (over w l) i 0 ≡ getD w i 0
+  unfolding over
+  getD-over i h = List·getD-append w (drop (length w) l) 0 i h
+
+  pub getD-over-past : (i : ℕ) → length w ≤ i → getD (over w l) i 0 ≡ getD l i 0
+  unfolding over
+  getD-over-past i h =
+      rw (← add-sub-of-le h) (getD-append-add w (drop (length w) l) (i - length w) 0 ∙ getD-drop (length w) l (i - length w) 0)
+
+  -- a list that starts with w and goes on as l does
+  pub over-is : (r : List ℕ) → take (length w) r ≡ w → drop (length w) r ≡ drop (length w) l → r ≡ over w l
+  unfolding over
+  over-is r e d = sym (take-append-drop (length w) r) ∙ rw (e, d)
+
+  -- the same, index by index
+  pub over-each :
+      (r : List ℕ) →
+      length w ≤ length l →
+      length r ≡ length l →
+      ((i : ℕ) → i < length w → getD r i 0 ≡ getD w i 0) →
+      ((i : ℕ) → length w ≤ i → getD r i 0 ≡ getD l i 0) →
+      r ≡ over w l
+  over-each r h e front rest =
+      ext-getD 0 r (over w l) (e ∙ sym (length-over h))
+      (λ i _.
+      cases (ltb i (length w))
+      (λ t. let b = ltb-true i (length w) t in front i b ∙ sym (getD-over i b))
+      (λ f. let b = ltb-false i (length w) f in rest i b ∙ sym (getD-over-past i b)))
+
+-- ---- f 0, f 1, .., f (n - 1), then the rest of l as it was: what a loop has written after n turns
+
+module _ (f : ℕ → ℕ) (n : ℕ) (l : List ℕ) where
+  pub length-over-tab : n ≤ length l → length (over (tab f n) l) ≡ length l
+  length-over-tab h = length-over (tab f n) l (rw length-tab h)
+
+  pub getD-over-tab : (i : ℕ) → i < n → getD (over (tab f n) l) i 0 ≡ f i
+  getD-over-tab i h = getD-over (tab f n) l i (rw length-tab h) ∙ getD-tab f n i h
+
+  pub getD-over-tab-past : (i : ℕ) → n ≤ i → getD (over (tab f n) l) i 0 ≡ getD l i 0
+  getD-over-tab-past i h = getD-over-past (tab f n) l i (rw length-tab h)
+
+  -- one more turn
+  pub over-more : n < length l → set (over (tab f n) l) n (f n) ≡ over (tab f (n + 1)) l
+  unfolding over
+  over-more h =
+      rw (length-tab f n, length-tab f (n + 1), tab-more f n, drop-cons l n 0, append-assoc, add-one)
+      (set-at (tab f n) (getD l n 0) (drop (suc n) l) (f n) n (length-tab f n))
+
+  pub over-tab-each :
+      (r : List ℕ) →
+      n ≤ length l →
+      length r ≡ length l →
+      ((i : ℕ) → i < n → getD r i 0 ≡ f i) →
+      ((i : ℕ) → n ≤ i → getD r i 0 ≡ getD l i 0) →
+      r ≡ over (tab f n) l
+  over-tab-each r h e front rest =
+      over-each (tab f n) l r (rw length-tab h) e
+      (λ i b. let a : i < n = omega (arith, length-tab f n) in front i a ∙ sym (getD-tab f n i a))
+      (λ i b. rest i (omega (arith, length-tab f n)))
