@@ -2,4 +2,5 @@
 pub mod Bytes
 pub mod Tab
 pub mod First
+pub mod Packed
 pub mod Refusals

@@ -1,7 +1,7 @@
 -- Laws of refusals in an order: 'given exactly when', and 'the lowest place'. Assumes nothing.
 use mathlib.Core.Bool.{Bool, true, false, true≢false, false≢true}
-use mathlib.Core.Path.{_≡_, refl, sym, ap, _∙_}
-use mathlib.Core.Logic.{_↔_, _⊎_, inl, inr, ⊎-elim}
+use mathlib.Core.Path.{_≡_, refl, sym, ap, subst, _∙_}
+use mathlib.Core.Logic.{_↔_, _⊎_, _≢_, inl, inr, ⊎-elim}
 use Prim.Native.Nat.{ℕ, zero, suc, _+_, _<_}
 use native.Mathlib.Nat.{not-suc-le-zero, le-of-suc-le-suc, eq-or-lt-of-le}
 use native.Mathlib.Numerals.{add-one}
@@ -47,6 +47,11 @@ and-next e = rw e
 pub and-stop : {x : Check} (y : Check) {r : Refusal} → x ≡ Bad r → x andThen y ≡ Bad r
 unfolding _andThen_
 and-stop y e = rw e
+
+pub and-assoc : (x y z : Check) → (x andThen y) andThen z ≡ x andThen y andThen z
+unfolding _andThen_
+and-assoc Good y z = refl
+and-assoc (Bad r) y z = refl
 
 pub and-good : (x y : Check) → (x andThen y ≡ Good) ↔ ((x ≡ Good) × (y ≡ Good))
 unfolding _andThen_
@@ -108,3 +113,59 @@ pub scan-same : (c d : ℕ → Check) (n : ℕ) → ((i : ℕ) → i < n → c i
 unfolding scan
 scan-same c d zero e = refl
 scan-same c d (suc n) e = rw (e n (omega arith), scan-same c d n (λ i h. e i (omega arith)))
+
+-- ---- what every refusal of a check meets
+
+abbrev pub Only : (Refusal → Type 0) → Check → Type 0
+Only P c = (r : Refusal) → c ≡ Bad r → P r
+
+module _ (P : Refusal → Type 0) where
+  pub only-must : (b : Bool) (k p : ℕ) → P (record { number = k; place = p }) → Only P (must b k p)
+  only-must b k p h r e = subst P (bad-same (must-bad b k p r .0 e .1)) h
+
+  pub only-and : (x y : Check) → Only P x → (x ≡ Good → Only P y) → Only P (x andThen y)
+  only-and x y f g r e = ⊎-elim (f r) (λ z. g (z .0) r (z .1)) (and-bad x y r .0 e)
+
+  pub only-scan : (c : ℕ → Check) (n : ℕ) → ((i : ℕ) → i < n → Only P (c i)) → Only P (scan c n)
+  only-scan c n f r e = let l = scan-lowest c n r .0 e in f (l .index) (l .below) r (l .bad)
+
+-- ---- 'given exactly when'
+
+-- one check refuses at its place exactly if its test fails
+pub must-given : (b : Bool) (k p q : ℕ) → (must b k p ≡ refused k q) ↔ ((b ≡ false) × (q ≡ p))
+must-given b k p q = (
+  λ e. let m = must-bad b k p _ .0 e in (m .0, sym (same-place (m .1))),
+  λ h. must-bad b k p _ .1 (h .0, rw (h .1)),
+)
+
+-- where only the first of two checks has number k, and where only the second has it
+module _ (x y : Check) (k p : ℕ) where
+  pub and-first : Only (λ r. r .number ≢ k) y → (x andThen y ≡ refused k p) ↔ (x ≡ refused k p)
+  and-first none =
+      (λ e. ⊎-elim (λ b. b) (λ z. absurd (none _ (z .1) refl)) (and-bad x y _ .0 e), λ b. and-stop y b)
+
+  pub and-second : Only (λ r. r .number ≢ k) x → (x andThen y ≡ refused k p) ↔ ((x ≡ Good) × (y ≡ refused k p))
+  and-second none =
+      (λ e. ⊎-elim (λ b. absurd (none _ b refl)) (λ z. z) (and-bad x y _ .0 e), λ z. and-next (z .0) ∙ z .1)
+
+-- p is the lowest of the indices below n that are not right
+pub record LowestWrong (right : ℕ → Bool) (n p : ℕ) : Type 0 where
+  pub below : p < n
+  pub wrong : right p ≡ false
+  pub rest : (i : ℕ) → i < p → right i ≡ true
+
+pub scan-must : (right : ℕ → Bool) (k n p : ℕ) → (scan (λ i. must (right i) k i) n ≡ refused k p) ↔ LowestWrong right n p
+scan-must right k n p = (λ e. given (lowest c n _ e), λ w. scan-bad c n p (w .below) (scan-good c p .1 (λ i h. must-good _ k i .1 (w .rest i h))) (must-bad _ k p _ .1 (w .wrong, refl)))
+  where
+    c : ℕ → Check
+    c i = must (right i) k i
+
+    given : Lowest c n (record { number = k; place = p }) → LowestWrong right n p
+    given l =
+        let b = must-bad (right (l .index)) k (l .index) _ .0 (l .bad) in
+        let e = same-place (b .1) in
+        record {
+          below = omega (arith, l .below);
+          wrong = rw e at (b .0);
+          rest = λ i h. must-good _ k i .0 (l .good i (omega arith));
+        }

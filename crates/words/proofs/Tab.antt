@@ -8,7 +8,7 @@ use native.Mathlib.Numerals.{add-one}
 use native.Mathlib.Omega.{arith}
 use lib.Dec.{ltb}
 use lib.ListN.{length, getD, set, take, drop, length-append, length-drop, take-append-drop, List·getD-append}
-use lib.Seq.{drop-cons, set-at, getD-at, getD-drop, getD-append-add, ext-getD}
+use lib.Seq.{drop-cons, drop-drop, set-at, getD-at, getD-drop, getD-append-add, ext-getD}
 use borrow.Author.Tests.{ltb-true, ltb-false}
 use borrow.Table.Steps.{cases}
 use Rattle.words.specs.Tab.{tab, over}
@@ -47,6 +47,11 @@ tab-same f g n e = tab-is g n (tab f n) (length-tab f n) (λ i h. getD-tab f n i
 pub over-none : (l : List ℕ) → over [] l ≡ l
 unfolding over
 over-none l = refl
+
+-- two fronts, one behind the other
+pub over-append : (w v l : List ℕ) → over (w ++ v) l ≡ w ++ over v (drop (length w) l)
+unfolding over
+over-append w v l = rw (length-append, append-assoc, drop-drop)
 
 module _ (w l : List ℕ) where
   pub length-over : length w ≤ length l → length (over w l) ≡ length l

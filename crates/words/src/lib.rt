@@ -4,6 +4,9 @@
 // answer, or every byte of the lent slice.
 ghost use mathlib.Core.Path.{_≡_};
 ghost use Rattle.words.specs.Bytes.{leAt, putLe};
+ghost use Rattle.words.specs.Refusals.{must as mustOf, _andThen_};
+
+pub mod packing;
 
 // Document 01: "Each refusal is a number and a place."
 pub struct Refusal {
@@ -15,6 +18,29 @@ pub struct Refusal {
 pub enum Check {
     Good,
     Bad(Refusal),
+}
+
+// Refusal `number` at `place`, unless `ok` holds.
+pub fn must(ok: bool, number: u32, place: usize) -> Check
+    ensures { λ r. ⌜ r ≡ mustOf ok number place ⌝ }
+{
+    if ok {
+        return Check::Good;
+    }
+    Check::Bad(Refusal {
+        number: number,
+        place: place,
+    })
+}
+
+// The first check's refusal, or else the second's.
+pub fn and_then(a: Check, b: Check) -> Check
+    ensures { λ r. ⌜ r ≡ (a andThen b) ⌝ }
+{
+    match a {
+        Check::Good => b,
+        Check::Bad(_) => a,
+    }
 }
 
 fn byte(s: &[u8], p: usize) -> u8

@@ -1,0 +1,113 @@
+-- Sequences of steps: no word rises, what one possible step keeps all keep, and the total falls where one changes the table.
+-- Assumes nothing.
+use mathlib.Core.Path.{_≡_, refl, _∙_}
+use mathlib.Core.List.{List, [], _∷_, _++_}
+use mathlib.Core.Bool.{Bool, true, false, _||_}
+use Prim.Native.Nat.{ℕ, zero, suc, _+_, _≤_, _<_}
+use native.Mathlib.Omega.{arith}
+use native.Mathlib.Nat.{le-refl}
+use native.Mathlib.Numerals.{add-one}
+use lib.ListN.{length, getD}
+use Rattle.key.specs.Keys.{EMPTY}
+use Rattle.meaning.specs.Net.{Net, Sane}
+use Rattle.meaning.specs.Table.{cell, cells, total, SoundTable, HoldsLeaves, High}
+use Rattle.meaning.specs.Steps.{Step, Possible, targetOf, leftOf, offer, step, wins, after, All}
+use Rattle.meaning.specs.Passes.{each, changes}
+use Rattle.meaning.proofs.Sums.{total-falls, total-less}
+use Rattle.meaning.proofs.Steps.{step-length, step-falls, step-target, step-keeps, wins-true, wins-false, keeps-wins, offer-left, target-in, step-sound, step-high}
+
+module _ (P : Step → Type 0) where
+  pub all-append : (ss ss′ : List Step) → All P ss → All P ss′ → All P (ss ++ ss′)
+  all-append [] ss′ a b = b
+  all-append (s ∷ ss) ss′ a b = (a .0, all-append ss ss′ (a .1) b)
+
+  pub all-each : (f : ℕ → List Step) (c : ℕ) → ((x : ℕ) → x < c → All P (f x)) → All P (each c f)
+  all-each f zero h = tt
+  all-each f (suc c) h = all-append (each c f) (f c) (all-each f c (λ x l. h x (omega arith))) (h c (omega arith))
+
+module _ (n : ℕ) where
+  pub after-append : (t : List ℕ) (ss ss′ : List Step) → after n t (ss ++ ss′) ≡ after n (after n t ss) ss′
+  after-append t [] ss′ = refl
+  after-append t (s ∷ ss) ss′ = after-append (step n t s) ss ss′
+
+  pub changes-append : (t : List ℕ) (ss ss′ : List Step) → changes n t (ss ++ ss′) ≡ (changes n t ss || changes n (after n t ss) ss′)
+  changes-append t [] ss′ = refl
+  changes-append t (s ∷ ss) ss′ = rw (changes-append (step n t s) ss ss′) (go (wins n t s) _ _)
+    where
+      go : (a b c : Bool) → (a || (b || c)) ≡ (a || b || c)
+      go true b c = refl
+      go false b c = refl
+
+  -- one round more of a loop
+  pub after-each : (t : List ℕ) (f : ℕ → List Step) (c : ℕ) → after n t (each (c + 1) f) ≡ after n (after n t (each c f)) (f c)
+  after-each t f c = rw add-one (after-append t (each c f) (f c))
+
+  pub changes-each : (t : List ℕ) (f : ℕ → List Step) (c : ℕ)
+      → changes n t (each (c + 1) f) ≡ (changes n t (each c f) || changes n (after n t (each c f)) (f c))
+  changes-each t f c = rw add-one (changes-append t (each c f) (f c))
+
+  pub after-length : (t : List ℕ) (ss : List Step) → length (after n t ss) ≡ length t
+  after-length t [] = refl
+  after-length t (s ∷ ss) = after-length (step n t s) ss ∙ step-length n t s
+
+  -- no word rises
+  pub after-falls : (t : List ℕ) (ss : List Step) (c : ℕ) → getD (after n t ss) c 0 ≤ getD t c 0
+  after-falls t [] c = le-refl _
+  after-falls t (s ∷ ss) c = omega (arith, after-falls (step n t s) ss c, step-falls n t s c)
+
+  -- where no step changes the table, it is as it was
+  pub changes-none : (t : List ℕ) (ss : List Step) → changes n t ss ≡ false → after n t ss ≡ t
+  changes-none t [] e = refl
+  changes-none t (s ∷ ss) e = go (wins n t s) refl (changes-none (step n t s) ss)
+    where
+      go : (b : Bool) → wins n t s ≡ b → (changes n (step n t s) ss ≡ false → after n (step n t s) ss ≡ step n t s) → after n (step n t s) ss ≡ t
+      go true w ih = let z : _≡_ {A = ℕ} 0 1 = cc in absurd (omega arith)
+      go false w ih = ih (rw w at e) ∙ step-keeps n t s (wins-false n t s w)
+
+  -- steps whose left side is empty change nothing
+  pub changes-empty : (t : List ℕ) → ((c : ℕ) → getD t c 0 ≤ EMPTY) → (ss : List Step) → All (λ s. EMPTY ≤ getD t (leftOf n s) 0) ss → changes n t ss ≡ false
+  changes-empty t few [] h = refl
+  changes-empty t few (s ∷ ss) h =
+      let l : getD t (targetOf n s) 0 ≤ offer n t s = omega (arith, few (targetOf n s), offer-left n t s (h .0)) in
+      rw (keeps-wins n t s l, step-keeps n t s l) (changes-empty t few ss (h .1))
+
+module _ {g : Net} (ok : Sane g) where
+  pub after-sound : (t : List ℕ) (ss : List Step) → All (Possible g) ss → SoundTable g t → SoundTable g (after (g .nodes) t ss)
+  after-sound t [] can sound = sound
+  after-sound t (s ∷ ss) can sound = after-sound (step (g .nodes) t s) ss (can .1) (step-sound ok s (can .0) t sound)
+
+  pub after-high : (t : List ℕ) (ss : List Step) → All (Possible g) ss → SoundTable g t → High g t → High g (after (g .nodes) t ss)
+  after-high t [] can sound high = high
+  after-high t (s ∷ ss) can sound high =
+      after-high (step (g .nodes) t s) ss (can .1) (step-sound ok s (can .0) t sound) (step-high ok s (can .0) t sound high)
+
+  -- the measure of a run of passes: where a step changes the table, the total of its cells falls
+  pub changes-some : (t : List ℕ) (ss : List Step) → All (Possible g) ss → cells g ≤ length t → changes (g .nodes) t ss ≡ true
+      → total (after (g .nodes) t ss) (cells g) < total t (cells g)
+  changes-some t [] can long e = let z : _≡_ {A = ℕ} 0 1 = cc in absurd (omega arith)
+  changes-some t (s ∷ ss) can long e = go (wins n t s) refl (changes-some t′ ss (can .1) (rw (step-length n t s) long))
+    where
+      n : ℕ
+      n = g .nodes
+
+      c : ℕ
+      c = cells g
+
+      t′ : List ℕ
+      t′ = step n t s
+
+      go : (b : Bool) → wins n t s ≡ b → (changes n t′ ss ≡ true → total (after n t′ ss) c < total t′ c) → total (after n t′ ss) c < total t c
+      go true w ih =
+          let l = target-in ok s (can .0) in
+          let now = step-target n t s (omega arith) in
+          let less = total-less t t′ (step-falls n t s) (targetOf n s) (omega (arith, wins-true n t s w)) c l in
+          omega (arith, total-falls t′ (after n t′ ss) (after-falls n t′ ss) c)
+      go false w ih = omega (arith, ih (rw w at e), total-falls t t′ (step-falls n t s) c)
+
+pub after-leaves : {g : Net} (t : List ℕ) (ss : List Step) → HoldsLeaves g t → HoldsLeaves g (after (g .nodes) t ss)
+after-leaves {g} t ss holds = record {
+  cell = λ A i j κ y.
+      let h = holds .cell A i j κ y in
+      let l = after-falls (g .nodes) t ss (cell (g .nodes) A i j) in
+      (omega arith, omega arith);
+}

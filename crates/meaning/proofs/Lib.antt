@@ -1,0 +1,26 @@
+-- The theorems on what document 01 means.
+pub mod Records
+pub mod Joined
+pub mod Trees
+pub mod Cells
+pub mod Sums
+pub mod Gap
+pub mod Steps
+pub mod After
+pub mod Passes
+pub mod Start
+pub mod Demand2
+pub mod Demand3
+pub mod Heights
+pub mod PassOf
+pub mod Fronts
+pub mod Lengths
+pub mod Right
+pub mod Edges
+pub mod Recorded
+pub mod Bits
+pub mod Rows
+pub mod Nets
+pub mod Computed
+pub mod Certain
+pub mod Examples
