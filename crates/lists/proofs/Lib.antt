@@ -1,0 +1,3 @@
+-- What the check's answer tells: the facts of accepted lists, and when each refusal is given.
+pub mod Right
+pub mod Given

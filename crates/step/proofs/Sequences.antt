@@ -1,0 +1,116 @@
+-- An accepted sequence of calls of the step is a sequence of steps by their rule, so demand 3 speaks of these calls;
+-- and from the start on no possible step is refused. Assumes nothing.
+use mathlib.Core.Path.{_≡_, refl, sym, ap, subst, _∙_}
+use mathlib.Core.List.{List}
+use mathlib.Core.Bool.{Bool, true, false, not}
+use Prim.Native.Nat.{ℕ, _<_}
+use lib.ListN.{length}
+use Rattle.words.specs.declared.Check.{Check}
+use Rattle.words.specs.declared.Check.the-variants.{Good, Bad}
+use Rattle.words.proofs.Refusals.{must-good, and-good}
+use Rattle.key.specs.Keys.{EMPTY, heightOf}
+use Rattle.meaning.specs.Net.{Net, Sane}
+use Rattle.meaning.specs.Trees.{Reach}
+use Rattle.meaning.specs.Table.{at, Each}
+use Rattle.meaning.specs.Final.{FinalTable}
+use Rattle.meaning.specs.Steps.{Possible, step, wins, after, All, Still}
+use Rattle.meaning.specs.Passes.{askOf}
+use Rattle.meaning.proofs.After.{after-length}
+use Rattle.meaning.proofs.Start.{start-sound}
+use Rattle.meaning.proofs.Demand3.{sound-always, start-final}
+use Rattle.meaning.proofs.Heights.{accepted-always}
+use Rattle.meaning.proofs.PassOf.{ask-possible}
+use Rattle.lists.specs.declared.Numbers.{Numbers}
+use Rattle.lists.specs.Lists.{net}
+use Rattle.lists.proofs.Right.{RightLists, sane}
+use Rattle.step.specs.declared.StepAnswer.{StepAnswer}
+use Rattle.step.specs.Entering.{answered}
+use Rattle.step.specs.Calls.{usableCheck, heightCheck, cellsCheck, stepCheck, stepOf, Accepts, Ask, asked, Calls, none, call, StartCall}
+use Rattle.step.proofs.Order.{Arguments, start-good, call-good}
+
+-- an answer that accepts comes of a good check, and leaves the table after the step
+by-check : (c : Check) (w : Bool) (t t′ u : List ℕ) (a : StepAnswer) → Accepts a → (a, u) ≡ answered c w t t′ → (c ≡ Good) × (u ≡ t′)
+by-check Good true t t′ u a acc e = (refl, ap (λ (z : StepAnswer × List ℕ). z .1) e)
+by-check Good false t t′ u a acc e = (refl, ap (λ (z : StepAnswer × List ℕ). z .1) e)
+by-check (Bad r) w t t′ u a acc e = absurd (subst Accepts (ap (λ (z : StepAnswer × List ℕ). z .0) e) acc)
+
+good-accepts : (w : Bool) (t t′ : List ℕ) → Accepts (answered Good w t t′ .0)
+good-accepts true t t′ = tt
+good-accepts false t t′ = tt
+
+module _ (numbers : Numbers) (rules edges : List ℕ) where
+  module _ (t : List ℕ) (r i k j : ℕ) where
+    -- an accepted call makes a possible step
+    pub record Stepped (u : List ℕ) : Type 0 where
+      pub can : Possible (net numbers rules edges) (askOf rules r i k j)
+      pub is : u ≡ step (numbers .nodes) t (askOf rules r i k j)
+
+    pub accepted-step : (u : List ℕ) (a : StepAnswer) → Accepts a → (a, u) ≡ stepOf numbers rules edges t r i k j → Stepped u
+    unfolding stepOf stepCheck
+    accepted-step u a acc e =
+        let b = by-check _ _ t _ u a acc e in
+        let p = call-good numbers rules edges r i k j (length t) .0 (and-good _ _ .0 (b .0) .0) .1 in
+        record {
+          can = ask-possible (numbers .nodes) (numbers .nonterminals) rules edges r i k j (p .rule) (p .pair) (p .from) (p .middle) (p .to);
+          is = b .1;
+        }
+
+  -- the table after accepted calls is the table after possible steps
+  pub record Steps (t : List ℕ) (asks : List Ask) (u : List ℕ) : Type 0 where
+    pub can : All (Possible (net numbers rules edges)) (asked rules asks)
+    pub is : u ≡ after (numbers .nodes) t (asked rules asks)
+
+  pub calls-steps : {t u : List ℕ} {asks : List Ask} → Calls numbers rules edges t asks u → Steps t asks u
+  calls-steps none = record { can = tt; is = refl }
+  calls-steps (call {t} {u} {v} {a} {asks} answer acc e more) =
+      let s = accepted-step t (a .rule) (a .from) (a .middle) (a .to) u answer acc e in
+      let m = calls-steps more in
+      record { can = (s .can, m .can); is = m .is ∙ ap (λ x. after (numbers .nodes) x (asked rules asks)) (s .is) }
+
+  module _ {t₀ t u : List ℕ} {asks : List Ask} (start : StartCall numbers rules edges t₀ Good t) (calls : Calls numbers rules edges t asks u) where
+    abbrev g : Net
+    g = net numbers rules edges
+
+    lists : RightLists numbers rules edges
+    lists = start-good numbers rules edges (length t₀) .0 (sym (start .answer)) .lists
+
+    ok : Sane g
+    ok = sane numbers rules edges lists
+
+    steps : Steps t asks u
+    steps = calls-steps calls
+
+    -- demand 3, of these calls: each filled cell has a real path with a tree of the recorded height
+    pub calls-sound : Each g (λ A i j. at (g .nodes) u A i j < EMPTY → (p : List ℕ) × Reach g A i j (heightOf (at (g .nodes) u A i j)) p)
+    calls-sound = rw (steps .is) (sound-always ok t (start-sound ok t (start .leaves .start)) (asked rules asks) (steps .can))
+
+    -- and a table that no step would change is final
+    pub calls-final : Still g u → FinalTable g u
+    calls-final = rw (steps .is) (start-final ok t (start .leaves .start) (asked rules asks) (steps .can))
+
+    module _ (r i k j : ℕ) (args : Arguments (numbers .nodes) rules r i k j) where
+      -- no step with arguments in range is refused
+      pub never-refused : stepCheck numbers rules edges u r i k j ≡ Good
+      unfolding stepCheck cellsCheck usableCheck heightCheck
+      never-refused =
+          let can =
+          ask-possible (numbers .nodes) (numbers .nonterminals) rules edges r i k j (args .rule) (args .pair) (args .from) (args .middle) (args .to) in
+          let free = accepted-always ok t (start .leaves .start) (asked rules asks) (steps .can) (askOf rules r i k j) can in
+          and-good _ _ .1 (
+            call-good numbers rules edges r i k j (length u) .1
+                (record { lists = lists; room = rw (steps .is, after-length) (start .leaves .start .long) }, args),
+            rw (steps .is)
+                (and-good _ _ .1 (
+                  and-good _ _ .1 (
+                    must-good _ 11 _ .1 (free .target),
+                    and-good _ _ .1 (must-good _ 11 _ .1 (free .left), must-good _ 11 _ .1 (free .right)),
+                  ),
+                  must-good _ 12 _ .1 (ap not (free .low)),
+                )),
+          )
+
+      pub always-accepted : Accepts (stepOf numbers rules edges u r i k j .0)
+      unfolding stepOf
+      always-accepted =
+          rw never-refused
+          (good-accepts (wins (numbers .nodes) u (askOf rules r i k j)) u (step (numbers .nodes) u (askOf rules r i k j)))
