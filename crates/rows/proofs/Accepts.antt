@@ -1,0 +1,52 @@
+-- An accepted call's numbers, lists and room; and each refusal of a call 'given exactly when'. Assumes nothing.
+use mathlib.Core.Path.{_≡_, refl, sym}
+use mathlib.Core.List.{List}
+use mathlib.Core.Logic.{_≢_, _↔_, Iff·rfl, Iff·and, Iff·trans}
+use Prim.Native.Nat.{ℕ, _*_, _≤_, _<_}
+use native.Mathlib.Omega.{arith}
+use native.Mathlib.Nat.{mul-le-mul}
+use borrow.Author.Tests.{leb-true, leb-false, lt-leb}
+use Rattle.words.specs.declared.Check.the-variants.{Good}
+use Rattle.words.specs.Refusals.{refused}
+use Rattle.words.proofs.Refusals.{must-good, must-bad, and-good, same-place, only-must, and-first, and-second}
+use Rattle.meaning.specs.Net.{Sane}
+use Rattle.lists.specs.declared.Numbers.{Numbers}
+use Rattle.lists.specs.Lists.{net, listsCheck, roomCheck}
+use Rattle.lists.proofs.Right.{accepted, sane}
+use Rattle.lists.proofs.Given.{given-only}
+use Rattle.rows.specs.Calls.{rowsCheck}
+
+-- the number of rows
+pub rows-few : (numbers : Numbers) (rules edges : List ℕ) → listsCheck numbers rules edges ≡ Good → numbers .nonterminals * numbers .nodes ≤ 2048
+rows-few numbers rules edges e =
+    let r = accepted numbers rules edges e in
+    omega (arith, mul-le-mul (r .nonterminals .high) (r .nodes .high))
+
+module _ (numbers : Numbers) (rules edges : List ℕ) (have : ℕ) (e : rowsCheck numbers rules edges have ≡ Good) where
+  both : (listsCheck numbers rules edges ≡ Good) × (roomCheck 5 (numbers .nonterminals * numbers .nodes) have ≡ Good)
+  unfolding rowsCheck
+  both = and-good _ _ .0 e
+
+  pub rows-sane : Sane (net numbers rules edges)
+  rows-sane = sane numbers rules edges (accepted numbers rules edges (both .0))
+
+  pub rows-room : numbers .nonterminals * numbers .nodes ≤ have
+  unfolding roomCheck
+  rows-room = leb-true _ _ (must-good _ _ _ .0 (both .1))
+
+module _ (numbers : Numbers) (rules edges : List ℕ) (have p : ℕ) where
+  -- the lists' refusals come first, exactly as the lists give them
+  pub given-lists : (k : ℕ) → k ≢ 10 → (rowsCheck numbers rules edges have ≡ refused k p) ↔ (listsCheck numbers rules edges ≡ refused k p)
+  unfolding rowsCheck roomCheck
+  given-lists k n = and-first _ _ k p (only-must _ _ 10 5 (λ e. n (sym e)))
+
+  -- 10: "a lent buffer too short", "rows 5"
+  pub given-10 : (rowsCheck numbers rules edges have ≡ refused 10 p)
+      ↔ ((listsCheck numbers rules edges ≡ Good) × ((p ≡ 5) × (have < numbers .nonterminals * numbers .nodes)))
+  unfolding rowsCheck roomCheck
+  given-10 =
+      Iff·trans (and-second _ _ 10 p (λ r e h. omega (arith, given-only numbers rules edges r e .0)))
+      (Iff·and Iff·rfl (
+        (λ e. let z = must-bad _ 10 5 _ .0 e in (sym (same-place (z .1)), leb-false _ _ (z .0))),
+        (λ z. must-bad _ 10 5 _ .1 (lt-leb _ _ (z .1), rw (z .0) refl)),
+      ))
