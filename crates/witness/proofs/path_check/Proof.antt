@@ -1,0 +1,47 @@
+-- `witness::path_check` meets its contract. Assumes nothing.
+use Rattle.words.specs.Refusals.{must}
+use Rattle.witness.specs.Answers.{pathCheck}
+use borrow.Author.Needs.{needs}
+use Rattle.witness.proofs.path_check.Statement.{statement}
+use Rattle.witness.proofs.path_check.Tie as tie
+
+key-at-requires : tie.Need-key-at-requires
+key-at-requires c κs = search needs
+
+cell-requires : tie.Need-cell-requires
+cell-requires c κs = search needs
+
+must-requires : tie.Need-must-requires
+must-requires c κs = search needs
+
+length-at-requires : tie.Need-length-at-requires
+length-at-requires c κs = search needs
+
+must-requires-2 : tie.Need-must-requires-2
+must-requires-2 c κs = search needs
+
+and-then-requires : tie.Need-and-then-requires
+and-then-requires c κs = search needs
+
+returns : tie.Need-returns
+unfolding pathCheck
+returns c =
+    let and-then = c .and-then in
+    let must = c .before .before .before .must in
+    let must2 = c .before .must2 in
+    let key-at = c .before .before .before .before .before .key-at in
+    let length-at = c .before .before .length-at in
+    let cell = c .before .before .before .before .cell in
+    rw (and-then .ensures, must .ensures, must2 .ensures, key-at .ensures, length-at .ensures, cell .ensures)
+
+pub path-check-spec : {M : Type 1} → statement M
+path-check-spec =
+    tie.close
+    (tie.spec
+    key-at-requires
+    cell-requires
+    must-requires
+    length-at-requires
+    must-requires-2
+    and-then-requires
+    returns)
