@@ -1,0 +1,47 @@
+-- A caller reads a refusal's number and place off the answer, as include/nevelknop.h does. Assumes nothing.
+use mathlib.Core.Path.{_≡_, sym, ap, _∙_}
+use mathlib.Core.List.{List}
+use Prim.Native.Nat.{ℕ, _/_, _%_, _^_}
+use native.Mathlib.Omega.{arith}
+use lib.ListN.{length}
+use Rattle.words.specs.declared.Check.{Check}
+use Rattle.words.specs.declared.Check.the-variants.{Good, Bad}
+use Rattle.words.specs.declared.Refusal.{Refusal}
+use Rattle.words.proofs.Refusals.{good-bad, bad-same, Only, only-must, only-and}
+use Rattle.lists.specs.declared.Numbers.{Numbers}
+use Rattle.closure.specs.Runs.{runCheck}
+use Rattle.witness.specs.Answers.{witnessCheck}
+use Rattle.nevelknop.specs.Calls.{wordsOf, cellWords, recordsCheck, callCheck, refusalNumber, RunBytes, WitnessBytes, RunCall, WitnessCall}
+use Rattle.nevelknop.proofs.Places.{Low, low-records, low-call, low-run, low-witness}
+
+-- the answer n says refusal r
+pub record Says (n : ℕ) (r : Refusal) : Type 0 where
+  pub number : n / 2 ^ 32 ≡ r .number
+  pub place : n % 2 ^ 32 ≡ r .place
+
+says : {n : ℕ} {r : Refusal} → n ≡ refusalNumber r → Low r → Says n r
+says e l = record { number = omega arith; place = omega arith }
+
+module _ (numbers : Numbers) (rules edges : List ℕ) where
+  abbrev R : List ℕ
+  R = wordsOf 2 rules
+
+  abbrev E : List ℕ
+  E = wordsOf 2 edges
+
+  abbrev check : Check → Check
+  check = callCheck (recordsCheck (length rules) (length edges)) numbers R E
+
+  pub run-says : (table lengths : List ℕ) {table′ lengths′ : List ℕ} {n : ℕ} {r : Refusal}
+      → check (runCheck numbers R E (length (cellWords 8 table)) (length (cellWords 4 lengths))) ≡ Bad r
+      → RunCall numbers rules edges table lengths table′ lengths′ n → Says n r
+  run-says table lengths {r = r} e (RunBytes.refused s f a t l) =
+      says (a ∙ ap refusalNumber (bad-same (sym f ∙ e))) (low-call numbers R E (low-records _ _) (low-run numbers R E _ _) r e)
+  run-says table lengths e (RunBytes.ran a t l f i n u k) = absurd (good-bad (sym f ∙ e))
+
+  pub witness-says : (a i j : ℕ) (table lengths path : List ℕ) {path′ : List ℕ} {n : ℕ} {r : Refusal}
+      → check (witnessCheck numbers R E a i j (cellWords 8 table) (cellWords 4 lengths) (length path / 2)) ≡ Bad r
+      → WitnessCall numbers rules edges a i j table lengths path path′ n → Says n r
+  witness-says a i j table lengths path {r = r} e (WitnessBytes.refused s f n p) =
+      says (n ∙ ap refusalNumber (bad-same (sym f ∙ e))) (low-call numbers R E (low-records _ _) (low-witness numbers R E _ _ a i j _) r e)
+  witness-says a i j table lengths path e (WitnessBytes.wrote p f way n w) = absurd (good-bad (sym f ∙ e))

@@ -1,0 +1,35 @@
+-- `nevelknop::checks::large_check` meets its contract. Assumes nothing.
+use Rattle.nevelknop.specs.Calls.{largeCheck}
+use borrow.Author.Needs.{needs}
+use Rattle.nevelknop.proofs.checks.large_check.Statement.{statement}
+use Rattle.nevelknop.proofs.checks.large_check.Tie as tie
+
+must-requires : tie.Need-must-requires
+must-requires c κs = search needs
+
+must-requires-2 : tie.Need-must-requires-2
+must-requires-2 c κs = search needs
+
+must-requires-3 : tie.Need-must-requires-3
+must-requires-3 c κs = search needs
+
+and-then-requires : tie.Need-and-then-requires
+and-then-requires c κs = search needs
+
+and-then-requires-2 : tie.Need-and-then-requires-2
+and-then-requires-2 c κs = search needs
+
+returns : tie.Need-returns
+unfolding largeCheck
+returns c = cc
+
+pub large-check-spec : {M : Type 1} → statement M
+large-check-spec =
+    tie.close
+    (tie.spec
+    must-requires
+    must-requires-2
+    must-requires-3
+    and-then-requires
+    and-then-requires-2
+    returns)

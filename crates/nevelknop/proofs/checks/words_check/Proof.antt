@@ -1,0 +1,20 @@
+-- `nevelknop::checks::words_check` meets its contract. Assumes nothing.
+use borrow.Author.Needs.{needs}
+use Rattle.nevelknop.proofs.checks.words_check.Statement.{statement}
+use Rattle.nevelknop.proofs.checks.words_check.Tie as tie
+
+check-requires : tie.Need-check-requires
+check-requires c κs = search needs
+
+large-check-requires : tie.Need-large-check-requires
+large-check-requires c κs = search needs
+
+and-then-requires : tie.Need-and-then-requires
+and-then-requires c κs = search needs
+
+returns : tie.Need-returns
+returns c = cc
+
+pub words-check-spec : {M : Type 1} → statement M
+words-check-spec =
+    tie.close (tie.spec check-requires large-check-requires and-then-requires returns)
