@@ -1,0 +1,120 @@
+-- `table::main` meets its contract: an accepted deck's lists lie within their room, and its numbers within their limits. Assumes nothing.
+use mathlib.Core.Path.{sym}
+use native.Mathlib.Omega.{arith}
+use lib.Seq.{length-take-le}
+use Rattle.lists.proofs.Right.{accepted}
+use Rattle.text.proofs.Reports.{read-is}
+use borrow.Author.Needs.{needs}
+use Rattle.table.proofs.main.Statement.{statement}
+use Rattle.table.proofs.main.Tie as tie
+
+slice-aggregate-read-full : tie.Need-slice-aggregate-read-full
+slice-aggregate-read-full c = search needs
+
+read-full-requires : tie.Need-read-full-requires
+read-full-requires c κs = search needs
+
+rule-words-requires : tie.Need-rule-words-requires
+rule-words-requires c κs = search needs
+
+edge-words-requires : tie.Need-edge-words-requires
+edge-words-requires c κs = search needs
+
+array-share-prefix-deck : tie.Need-array-share-prefix-deck
+array-share-prefix-deck c = search needs
+
+slice-aggregate-read : tie.Need-slice-aggregate-read
+slice-aggregate-read c = search needs
+
+slice-aggregate-read-2 : tie.Need-slice-aggregate-read-2
+slice-aggregate-read-2 c = search needs
+
+slice-aggregate-read-3 : tie.Need-slice-aggregate-read-3
+slice-aggregate-read-3 c = search needs
+
+read-requires : tie.Need-read-requires
+read-requires c κs = search needs
+
+enum-known-answer : tie.Need-enum-known-answer
+enum-known-answer c = search needs
+
+mul-r : tie.Need-mul-r
+mul-r c =
+    let r = c .before .before .before .before .before .before .read .ensures in
+    let s = read-is _ (c .before .before .before .before .before .before .before .before .before .before .before .rule-words .result) (c .before .before .before .before .before .before .before .before .before .before .edge-words .result) (sym (c .before .before .before .before .before .before .before .before .before .before .before .rule-words .ensures)) (sym (c .before .before .before .before .before .before .before .before .before .before .edge-words .ensures)) (r .0) (r .1 .0) (r .1 .1) (c .before .before .answer .given .1) in
+    omega (arith, s .rules-fit)
+
+mul-e : tie.Need-mul-e
+mul-e c =
+    let r = c .before .before .before .before .before .before .before .read .ensures in
+    let s = read-is _ (c .before .before .before .before .before .before .before .before .before .before .before .before .rule-words .result) (c .before .before .before .before .before .before .before .before .before .before .before .edge-words .result) (sym (c .before .before .before .before .before .before .before .before .before .before .before .before .rule-words .ensures)) (sym (c .before .before .before .before .before .before .before .before .before .before .before .edge-words .ensures)) (r .0) (r .1 .0) (r .1 .1) (c .before .before .before .answer .given .1) in
+    omega (arith, s .edges-fit)
+
+array-share-prefix-rules : tie.Need-array-share-prefix-rules
+array-share-prefix-rules c =
+    let r = c .before .before .before .before .before .before .before .read .ensures in
+    let s = read-is _ (c .before .before .before .before .before .before .before .before .before .before .before .before .rule-words .result) (c .before .before .before .before .before .before .before .before .before .before .before .edge-words .result) (sym (c .before .before .before .before .before .before .before .before .before .before .before .before .rule-words .ensures)) (sym (c .before .before .before .before .before .before .before .before .before .before .before .edge-words .ensures)) (r .0) (r .1 .0) (r .1 .1) (c .before .before .before .answer .given .1) in
+    omega (arith, s .rules-fit, s .rules-long)
+
+slice-aggregate-closed : tie.Need-slice-aggregate-closed
+slice-aggregate-closed c =
+    let r = c .before .before .before .before .before .before .before .before .read .ensures in
+    let s = read-is _ (c .before .before .before .before .before .before .before .before .before .before .before .before .before .rule-words .result) (c .before .before .before .before .before .before .before .before .before .before .before .before .edge-words .result) (sym (c .before .before .before .before .before .before .before .before .before .before .before .before .before .rule-words .ensures)) (sym (c .before .before .before .before .before .before .before .before .before .before .before .before .edge-words .ensures)) (r .0) (r .1 .0) (r .1 .1) (c .before .before .before .before .answer .given .1) in
+    sym (length-take-le _ _ (omega (arith, s .rules-fit, s .rules-long)))
+
+array-share-prefix-edges : tie.Need-array-share-prefix-edges
+array-share-prefix-edges c =
+    let r = c .before .before .before .before .before .before .before .before .read .ensures in
+    let s = read-is _ (c .before .before .before .before .before .before .before .before .before .before .before .before .before .rule-words .result) (c .before .before .before .before .before .before .before .before .before .before .before .before .edge-words .result) (sym (c .before .before .before .before .before .before .before .before .before .before .before .before .before .rule-words .ensures)) (sym (c .before .before .before .before .before .before .before .before .before .before .before .before .edge-words .ensures)) (r .0) (r .1 .0) (r .1 .1) (c .before .before .before .before .answer .given .1) in
+    omega (arith, s .edges-fit, s .edges-long)
+
+slice-aggregate-closed-2 : tie.Need-slice-aggregate-closed-2
+slice-aggregate-closed-2 c =
+    let r = c .before .before .before .before .before .before .before .before .before .read .ensures in
+    let s = read-is _ (c .before .before .before .before .before .before .before .before .before .before .before .before .before .before .rule-words .result) (c .before .before .before .before .before .before .before .before .before .before .before .before .before .edge-words .result) (sym (c .before .before .before .before .before .before .before .before .before .before .before .before .before .before .rule-words .ensures)) (sym (c .before .before .before .before .before .before .before .before .before .before .before .before .before .edge-words .ensures)) (r .0) (r .1 .0) (r .1 .1) (c .before .before .before .before .before .answer .given .1) in
+    sym (length-take-le _ _ (omega (arith, s .edges-fit, s .edges-long)))
+
+closed-requires : tie.Need-closed-requires
+closed-requires c κs =
+    let r = c .before .before .before .before .before .before .before .before .before .read .ensures in
+    let s = read-is _ (c .before .before .before .before .before .before .before .before .before .before .before .before .before .before .rule-words .result) (c .before .before .before .before .before .before .before .before .before .before .before .before .before .edge-words .result) (sym (c .before .before .before .before .before .before .before .before .before .before .before .before .before .before .rule-words .ensures)) (sym (c .before .before .before .before .before .before .before .before .before .before .before .before .before .edge-words .ensures)) (r .0) (r .1 .0) (r .1 .1) (c .before .before .before .before .before .answer .given .1) in
+    let l = accepted _ _ _ (s .lists) in
+    (l .nodes .low, (l .nodes .high, l .nonterminals .high))
+
+enum-known-answer-2 : tie.Need-enum-known-answer-2
+enum-known-answer-2 c = search needs
+
+refused-requires : tie.Need-refused-requires
+refused-requires c κs = search needs
+
+returns : tie.Need-returns
+returns c = search needs
+
+returns-2 : tie.Need-returns-2
+returns-2 c = search needs
+
+pub main-spec : {M : Type 1} → statement M
+main-spec =
+    tie.close
+    (tie.spec
+    slice-aggregate-read-full
+    read-full-requires
+    rule-words-requires
+    edge-words-requires
+    array-share-prefix-deck
+    slice-aggregate-read
+    slice-aggregate-read-2
+    slice-aggregate-read-3
+    read-requires
+    enum-known-answer
+    mul-r
+    mul-e
+    array-share-prefix-rules
+    slice-aggregate-closed
+    array-share-prefix-edges
+    slice-aggregate-closed-2
+    closed-requires
+    enum-known-answer-2
+    refused-requires
+    returns
+    returns-2)
