@@ -1,5 +1,5 @@
 -- From the start to the final table, and from there to its lengths: what the run's parts amount to. Assumes nothing.
-use mathlib.Core.Path.{_≡_, refl, subst, _∙_}
+use mathlib.Core.Path.{_≡_, refl, subst}
 use mathlib.Core.List.{List, [], _∷_, _++_}
 use mathlib.Core.Logic.{_≢_, inl, inr}
 use Prim.Native.Nat.{ℕ, zero, suc, _/_, _%_, _≤_, _<_}
@@ -7,7 +7,6 @@ use native.Mathlib.Omega.{arith}
 use native.Mathlib.Decide.{decLt}
 use lib.ListN.{length, getD}
 use Rattle.key.specs.Keys.{EMPTY, HIGHEST, heightOf, middleOf}
-use Rattle.words.specs.declared.Check.{Check}
 use Rattle.words.specs.declared.Check.the-variants.{Good}
 use Rattle.words.proofs.Refusals.{and-good}
 use Rattle.meaning.specs.Net.{Net, Sane}
@@ -28,7 +27,6 @@ use Rattle.meaning.proofs.Right.{Sides, Kind, leaf, pair, final-kinds}
 use Rattle.lists.specs.declared.Numbers.{Numbers}
 use Rattle.lists.specs.Lists.{net, cellsOf, listsCheck, roomCheck}
 use Rattle.lists.proofs.Right.{RightLists, room-good, accepted, sane}
-use Rattle.step.specs.Calls.{startCheck, Started, StartCall}
 use Rattle.closure.specs.declared.Size.{Size}
 use Rattle.closure.specs.declared.End.the-variants.{Done, High}
 use Rattle.closure.specs.Passes.{count, Low, Rules, passes, Settled}
@@ -57,14 +55,6 @@ module _ (numbers : Numbers) (rules edges t ls : List ℕ) (good : runCheck numb
         table = room-good 0 (cellsOf numbers) (length t) .0 (b .0);
         lengths = room-good 1 (cellsOf numbers) (length ls) .0 (b .1);
       }
-
-  -- so the start is not refused
-  pub started : (c : Check) (t′ : List ℕ) → StartCall numbers rules edges t c t′ → Started (net numbers rules edges) t t′
-  unfolding runCheck startCheck
-  started c t′ s =
-      let a = and-good (listsCheck numbers rules edges) _ .0 good in
-      let b = and-good (roomCheck 0 (cellsOf numbers) (length t)) _ .0 (a .1) in
-      rw (s .answer ∙ and-good (listsCheck numbers rules edges) _ .1 (a .0, b .0)) at (s .leaves)
 
 module _ (numbers : Numbers) (rules edges : List ℕ) (lists : RightLists numbers rules edges) where
   abbrev g : Net

@@ -1,7 +1,7 @@
 -- Lengths as they become known: none, one more, and two stretches after each other. Assumes nothing.
 use mathlib.Core.Path.{_≡_, refl, sym, ap, _∙_}
 use mathlib.Core.List.{List, _++_}
-use mathlib.Core.Logic.{_≢_}
+use mathlib.Core.Logic.{_≢_, inl, inr}
 use mathlib.Core.Bool.{Bool, true, false, cond, _||_}
 use Prim.Native.Nat.{ℕ, _+_, _≤_, _<_, min}
 use native.Mathlib.Omega.{arith}
@@ -17,10 +17,10 @@ use Rattle.words.proofs.Tab.{length-over, getD-over}
 use Rattle.meaning.specs.Table.{cell}
 use Rattle.meaning.specs.Lengths.{heldSum}
 use Rattle.meaning.proofs.Sums.{sum-less}
-use Rattle.step.specs.Entering.{cleared}
+use Rattle.start.specs.Entering.{cleared}
 use Rattle.closure.specs.declared.Size.{Size}
 use Rattle.closure.specs.Passes.{count}
-use Rattle.closure.specs.Fills.{leftSide, rightSide, PairCell, KnownCell, unknown, one, sides, Known, Idle, zeros, Grown, Filled, FilledAt}
+use Rattle.closure.specs.Fills.{leftSide, rightSide, PairCell, KnownCell, unknown, one, sides, Known, Wanted, Idle, empty, known as is-known, zeros, Grown, Filled, FilledAt}
 
 pub held-pos : (a b : ℕ) → a ≢ 0 → heldSum a b ≢ 0
 unfolding heldSum
@@ -106,6 +106,11 @@ module _ (z : Size) (rules t : List ℕ) where
       filled-set ls c v known inside unset pos
       (sides p (rw (← ea, el) l) (rw (← eb, er) r) (rw (← ea, ← eb, el, er) (here ls c v known inside unset pos ∙ e)))
 
+  -- what is not wanted is idle
+  pub idle-unwanted : (ls : List ℕ) (c : ℕ) → Wanted t ls c false → Idle z rules t ls c
+  idle-unwanted ls c (inl e) = empty e
+  idle-unwanted ls c (inr n) = is-known n
+
   -- nothing to do at c
   pub filled-idle : (ls : List ℕ) (c : ℕ) → Known z rules t ls → Idle z rules t ls c → FilledAt z rules t ls ls (λ x. x ≡ c) false
   filled-idle ls c known idle = record { filled = filled-none ls known; idle = λ e x q. rw q idle }
@@ -130,6 +135,15 @@ module _ (z : Size) (rules t : List ℕ) where
           same-if : (b : Bool) → b ≡ false → Grown z ls′ ls″ b → ls″ ≡ ls′
           same-if false e h = h
           same-if true e h = absurd (let k : _≡_ {A = ℕ} 0 1 = cc in omega arith)
+
+  -- a sweep goes past an idle cell
+  pub filled-pass : (ls ls′ : List ℕ) (c : ℕ) (a : Bool) → FilledAt z rules t ls ls′ (λ x. x < c) a → Idle z rules t ls′ c
+      → FilledAt z rules t ls ls′ (λ x. x < c + 1) a
+  filled-pass ls ls′ c a p i = record { filled = p .filled; idle = λ e x l. go e x l (ℕ-discrete x c) }
+    where
+      go : a ≡ false → (x : ℕ) → x < c + 1 → Dec (x ≡ c) → Idle z rules t ls′ x
+      go e x l (yes h) = rw h i
+      go e x l (no h) = p .idle e x (omega arith)
 
   -- nothing known yet
   pub known-none : (ls : List ℕ) → count z ≤ length ls → Known z rules t (over (replicate (count z) 0) ls)

@@ -179,19 +179,18 @@ cells-in z p i k j h hi hk hj = record {
 }
 
 -- one more step of a row, with its left side read before and its cells found by their place in the row
-pub row-more : (z : Size) (p : Pair) (i k j : ℕ) (t t′ t″ : List ℕ) (a b : Sweep) (left at to from : ℕ) → Cells z (ask p i k j)
-    → at ≡ cell (z .nodes) (p .left) i k → to ≡ cell (z .nodes) (p .head) i 0 → from ≡ cell (z .nodes) (p .right) k 0
-    → left < EMPTY → getD t′ at 0 ≡ left → Swept z (rowSteps p i k j) t t′ a
+pub row-more : (z : Size) (p : Pair) (i k j : ℕ) (t t′ t″ : List ℕ) (a b : Sweep) (left to from : ℕ) → Cells z (ask p i k j)
+    → to ≡ cell (z .nodes) (p .head) i 0 → from ≡ cell (z .nodes) (p .right) k 0 → left < EMPTY
+    → getD t′ (cell (z .nodes) (p .left) i k) 0 ≡ left → Swept z (rowSteps p i k j) t t′ a
     → Joined t′ (to + j) (candidate left (getD t′ (from + j) 0) k (p .number)) t″ b
-    → Swept z (rowSteps p i k (j + 1)) t t″ (merged a b) × (getD t″ at 0 ≡ left)
+    → Swept z (rowSteps p i k (j + 1)) t t″ (merged a b) × (getD t″ (cell (z .nodes) (p .left) i k) 0 ≡ left)
 unfolding offer
-row-more z p i k j t t′ t″ a b left at to from h is-at is-to is-from filled stays swept new =
+row-more z p i k j t t′ t″ a b left to from h is-to is-from filled stays swept new =
     let et : to + j ≡ targetOf (z .nodes) (ask p i k j) = ap (λ x. x + j) is-to ∙ cell-next (z .nodes) (p .head) i j in
     let ef : from + j ≡ rightOf (z .nodes) (ask p i k j) = ap (λ x. x + j) is-from ∙ cell-next (z .nodes) (p .right) k j in
-    let el : left ≡ getD t′ (leftOf (z .nodes) (ask p i k j)) 0 = rw (← is-at) (sym stays) in
-    let one : Joined t′ (targetOf (z .nodes) (ask p i k j)) (offer (z .nodes) t′ (ask p i k j)) t″ b = rw (et, ef, el) at new in (
+    let one : Joined t′ (targetOf (z .nodes) (ask p i k j)) (offer (z .nodes) t′ (ask p i k j)) t″ b = rw (et, ef, ← stays) at new in (
       rw (add-one j) (swept-more z (rowSteps p i k j) (ask p i k j ∷ []) t t′ t″ a b swept (swept-join z p i k j t′ t″ (swept .low) (h .target) b one)),
-      left-stays t′ t″ (to + j) at (getD t′ (from + j) 0) k (p .number) b (rw stays filled) (rw stays new) ∙ stays,
+      left-stays t′ t″ (to + j) (cell (z .nodes) (p .left) i k) (getD t′ (from + j) 0) k (p .number) b (rw stays filled) (rw stays new) ∙ stays,
     )
 
 -- no step of a row wins where the left side is empty

@@ -43,6 +43,11 @@ pub record Known (z : Size) (rules t ls : List ℕ) : Type 0 where
   pub long : count z ≤ length ls
   pub cell : (c : ℕ) → c < count z → KnownCell z rules t ls c
 
+-- whether a cell's length is wanted: it is filled, and its length is not known yet
+abbrev pub Wanted : List ℕ → List ℕ → ℕ → Bool → Type 0
+Wanted t ls c true = (getD t c 0 < EMPTY) × (getD ls c 0 ≡ 0)
+Wanted t ls c false = (getD t c 0 ≡ EMPTY) ⊎ (getD ls c 0 ≢ 0)
+
 -- nothing is left to do at a cell: it is empty, or known, or a side of it is not known
 pub data Idle (z : Size) (rules t ls : List ℕ) (c : ℕ) : Type 0 where
   empty : getD t c 0 ≡ EMPTY → Idle z rules t ls c

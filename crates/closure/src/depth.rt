@@ -6,7 +6,6 @@ ghost use lib.ListN.{length};
 ghost use lib.Dec.{ltb};
 ghost use Rattle.key.specs.Keys.{EMPTY, heightOf};
 ghost use Rattle.meaning.specs.Lengths.{depth};
-use crate::passes::larger;
 use key::Key;
 
 // The height of a cell, 0 for an empty one.
@@ -27,7 +26,10 @@ pub fn depth_of(table: &[u64], n: usize) -> u32
     let mut deep = 0;
     let mut c = 0;
     while c < n {
-        deep = larger(deep, height(table[c]));
+        let h = height(table[c]);
+        if deep < h {
+            deep = h;
+        }
         c += 1;
     }
     deep

@@ -6,7 +6,7 @@ ghost use Prim.Native.Nat.{_<_, _≤_};
 ghost use lib.ListN.{length, replicate};
 ghost use Rattle.words.specs.Tab.{over};
 ghost use Rattle.closure.specs.Passes.{count};
-ghost use Rattle.closure.specs.Fills.{leftSide, rightSide, PairCell, Linked, Known, FilledAt, Finished};
+ghost use Rattle.closure.specs.Fills.{leftSide, rightSide, PairCell, Linked, Known, Wanted, FilledAt, Finished};
 use crate::Size;
 use key::Key;
 use lists::cells;
@@ -44,6 +44,17 @@ fn sides_of(table: &[u64], z: Size, rules: &[u16], c: usize) -> Sides
     }
 }
 
+// Whether a cell's length is wanted: the cell is filled, and its length not known yet.
+fn wanted(table: &[u64], lengths: &[u32], c: usize) -> bool
+    requires { ⌜ (c < length (now table)) × (c < length (now lengths)) ⌝ }
+    ensures { λ b. ⌜ Wanted (now (table .entry)) (now (lengths .entry)) c b ⌝ }
+{
+    if table[c] == Key::EMPTY {
+        return false;
+    }
+    lengths[c] == 0
+}
+
 // The length of a cell, where it is not known and its sides' are. Answers whether it became known.
 fn take(table: &[u64], lengths: &mut [u32], z: Size, rules: &[u16], c: usize) -> bool
     requires { ⌜ Linked z (now rules) (now table) ⌝ }
@@ -51,14 +62,10 @@ fn take(table: &[u64], lengths: &mut [u32], z: Size, rules: &[u16], c: usize) ->
     requires { ⌜ c < count z ⌝ }
     ensures { λ b. ⌜ FilledAt z (now (rules .entry)) (now (table .entry)) (now (lengths .entry)) (now (lengths .exit)) (λ x. x ≡ c) b ⌝ }
 {
-    let word = table[c];
-    if word == Key::EMPTY {
+    if !wanted(table, lengths, c) {
         return false;
     }
-    if lengths[c] != 0 {
-        return false;
-    }
-    if word / 4294967296 == 1 {
+    if table[c] / 4294967296 == 1 {
         lengths[c] = 1;
         return true;
     }
@@ -82,14 +89,10 @@ fn deeper(table: &[u64], lengths: &[u32], c: usize, levels: u32) -> bool
     requires { ⌜ (c < length (now table)) × (c < length (now lengths)) ⌝ }
     ensures { λ b. ⌜ (b ≡ true → PairCell (now (table .entry)) c × (0 < levels)) ⌝ }
 {
-    let word = table[c];
-    if word == Key::EMPTY {
+    if !wanted(table, lengths, c) {
         return false;
     }
-    if word / 4294967296 == 1 {
-        return false;
-    }
-    if lengths[c] != 0 {
+    if table[c] / 4294967296 == 1 {
         return false;
     }
     0 < levels
@@ -125,7 +128,7 @@ fn fill(table: &[u64], lengths: &mut [u32], z: Size, rules: &[u16], c: usize, le
     either(either(left, right), here)
 }
 
-// One sweep over the cells.
+// One sweep over the cells. One that wants no length is passed over before any call, since most cells of a thin table are empty.
 fn sweep(table: &[u64], lengths: &mut [u32], z: Size, rules: &[u16]) -> bool
     requires { ⌜ Linked z (now rules) (now table) ⌝ }
     requires { ⌜ Known z (now rules) (now table) (now lengths) ⌝ }
@@ -135,7 +138,9 @@ fn sweep(table: &[u64], lengths: &mut [u32], z: Size, rules: &[u16]) -> bool
     let mut moved = false;
     let mut c = 0;
     while c < n {
-        moved = either(moved, fill(table, lengths, z, rules, c, LEVELS));
+        if wanted(table, lengths, c) {
+            moved = either(moved, fill(table, lengths, z, rules, c, LEVELS));
+        }
         c += 1;
     }
     moved

@@ -15,7 +15,7 @@ use lists::Numbers;
 use lists::cells;
 use lists::check;
 use lists::room;
-use step::start;
+use start::begin;
 use words::Check;
 use words::Refusal;
 use words::and_then;
@@ -30,21 +30,21 @@ pub enum RunAnswer {
 }
 
 // The numbers of nodes and nonterminals, once they are known to be small.
-pub struct Size {
-    pub nodes: u16,
-    pub nonterminals: u16,
+struct Size {
+    nodes: u16,
+    nonterminals: u16,
 }
 
 // A pair rule, read once.
-pub struct Pair {
-    pub number: u16,
-    pub head: u16,
-    pub left: u16,
-    pub right: u16,
+struct Pair {
+    number: u16,
+    head: u16,
+    left: u16,
+    right: u16,
 }
 
 // How the passes end: still, or at a cell where a step is too high.
-pub enum End {
+enum End {
     Done,
     High(usize),
 }
@@ -66,7 +66,7 @@ fn stop(table: &mut [u64], lengths: &mut [u32], n: usize)
     requires { ⌜ (n ≤ length (now table)) × (n ≤ length (now lengths)) ⌝ }
     ensures { λ _. ⌜ (now (table .exit) ≡ over (replicate n EMPTY) (now (table .entry))) × (now (lengths .exit) ≡ over (replicate n 0) (now (lengths .entry))) ⌝ }
 {
-    step::clear(table, n);
+    start::clear(table, n);
     clear(lengths, n);
 }
 
@@ -84,12 +84,13 @@ pub fn run(
     if let Check::Bad(f) = c {
         return RunAnswer::Refused(f);
     }
-    start(numbers, rules, edges, table);
     let z = Size {
         nodes: numbers.nodes as u16,
         nonterminals: numbers.nonterminals as u16,
     };
     let n = cells(z.nodes, z.nonterminals);
+    let count = (rules.len() / 3) as u16;
+    begin(z.nodes, z.nonterminals, rules, edges, table, count);
     let end = settle(table, z, rules);
     if let End::High(at) = end {
         stop(table, lengths, n);

@@ -1,7 +1,7 @@
 // Passes over the table: every possible step, until a whole pass moves nothing.
 // A finding of a height over 131,072 does not leave the loops: it is merged, so that every loop is the same.
 ghost use mathlib.Core.Path.{_≡_};
-ghost use Prim.Native.Nat.{_+_, _/_, _<_, _≤_, max};
+ghost use Prim.Native.Nat.{_+_, _/_, _<_, _≤_};
 ghost use lib.ListN.{length, getD};
 ghost use Rattle.key.specs.Keys.{EMPTY, HIGHEST, key, heightOf};
 ghost use Rattle.meaning.specs.Trees.{joined};
@@ -14,6 +14,7 @@ use crate::Pair;
 use crate::Size;
 use key::Key;
 use meaning::cell;
+use meaning::pair_height;
 use meaning::word;
 
 // What a stretch of steps found, as one number: nothing moved, something did, or 2 more than a cell where a step is too high.
@@ -35,12 +36,6 @@ fn merge(a: usize, b: usize) -> usize
     b
 }
 
-pub fn larger(a: u32, b: u32) -> u32
-    ensures { λ r. ⌜ r ≡ max a b ⌝ }
-{
-    if a < b { b } else { a }
-}
-
 // The key that two filled sides give.
 fn joined_key(left: u64, right: u64, k: u16, r: u16) -> u64
     requires { ⌜ (heightOf left ≤ HIGHEST) × (heightOf right ≤ HIGHEST) ⌝ }
@@ -48,7 +43,7 @@ fn joined_key(left: u64, right: u64, k: u16, r: u16) -> u64
 {
     let x = Key { word: left }.split();
     let y = Key { word: right }.split();
-    Key::make(1 + larger(x.height, y.height), k, r).word
+    Key::make(pair_height(x.height, y.height) as u32, k, r).word
 }
 
 // One step: cell `to` is offered what a filled left side and the word of cell `from` give.
@@ -73,33 +68,32 @@ fn join(table: &mut [u64], to: usize, left: u64, from: usize, k: u16, r: u16) ->
     MOVED
 }
 
-// The steps of a pair rule at i and k; none wins where the left side, cell `at`, is empty.
-// The left side is read once: a step never wins at its own left side, since it is higher.
-fn row(table: &mut [u64], z: Size, p: Pair, i: u16, k: u16, at: usize) -> usize
+// The steps of a pair rule at i and k, where the left side is filled.
+// That was read once: a step never wins at its own left side, since it is higher. Most steps find nothing, and then
+// nothing is merged: the innermost loop is short.
+fn row(table: &mut [u64], z: Size, p: Pair, i: u16, k: u16, left: u64) -> usize
     requires { ⌜ Low z (now table) ⌝ }
     requires { ⌜ Inside z p ⌝ }
-    requires { ⌜ (i < z .nodes) × (k < z .nodes) × (at ≡ cellOf (z .nodes) (p .left) i k) ⌝ }
+    requires { ⌜ (i < z .nodes) × (k < z .nodes) ⌝ }
+    requires { ⌜ (getD (now table) (cellOf (z .nodes) (p .left) i k) 0 ≡ left) × (left < EMPTY) ⌝ }
     ensures { λ a. ⌜ Swept z (rowSteps p i k (z .nodes)) (now (table .entry)) (now (table .exit)) (sweepOf a) ⌝ }
 {
-    let left = table[at];
-    if left == Key::EMPTY {
-        return STILL;
-    }
     let to = cell(z.nodes, p.head, i, 0);
     let from = cell(z.nodes, p.right, k, 0);
     let mut found = STILL;
     let mut j: u16 = 0;
     while j < z.nodes {
-        found = merge(
-            found,
-            join(table, to + j as usize, left, from + j as usize, k, p.number),
-        );
+        let step = join(table, to + j as usize, left, from + j as usize, k, p.number);
+        if step != STILL {
+            found = merge(found, step);
+        }
         j += 1;
     }
     found
 }
 
-// The steps of a pair rule at i.
+// The steps of a pair rule at i. None wins where the left side is empty: that is seen before any call, since most cells of
+// a thin table are.
 fn node(table: &mut [u64], z: Size, p: Pair, i: u16) -> usize
     requires { ⌜ Low z (now table) ⌝ }
     requires { ⌜ Inside z p ⌝ }
@@ -110,7 +104,10 @@ fn node(table: &mut [u64], z: Size, p: Pair, i: u16) -> usize
     let mut found = STILL;
     let mut k: u16 = 0;
     while k < z.nodes {
-        found = merge(found, row(table, z, p, i, k, base + k as usize));
+        let left = table[base + k as usize];
+        if left != Key::EMPTY {
+            found = merge(found, row(table, z, p, i, k, left));
+        }
         k += 1;
     }
     found

@@ -8,14 +8,15 @@ use lib.ListN.{length}
 use lib.Dec.{leb, ltb, eqb}
 use borrow.Author.Tests.{ltb-true, leb-true, eqb-true}
 use Rattle.words.specs.Refusals.{must, scan}
-use Rattle.words.specs.declared.Check.the-variants.{Good}
+use Rattle.words.specs.declared.Refusal.{Refusal}
+use Rattle.words.specs.declared.Check.the-variants.{Good, Bad}
 use Rattle.words.proofs.First.{first-le}
-use Rattle.words.proofs.Refusals.{must-good, and-good, scan-good}
+use Rattle.words.proofs.Refusals.{must-good, and-good, and-stop, and-next, scan-good}
 use Rattle.lists.specs.Lists.{inLimits, roomCheck}
 use Rattle.lists.proofs.Right.{both, Between, between-true}
 use Rattle.deck.specs.Blocks.{blocks, typeOf, wordAt, firstOf, recordAt}
 use Rattle.deck.specs.Reads.{headerOf, rightSize, sizeCheck, frameCheck, limitCheck, headerCheck, fillCheck, totalsCheck, entryCheck, ruleRecordCheck, entryOf, rightNodes, rightKind, edgeRecordCheck, deckCheck, readCheck}
-use Rattle.deck.specs.Stages.{sectionsOf, Handed, Mapped, Known}
+use Rattle.deck.specs.Stages.{sectionsOf, Handed, Mapped, Known, listsRoom}
 use Rattle.deck.specs.declared.Header.{Header}
 use Rattle.deck.specs.declared.Sections.{Sections}
 
@@ -45,11 +46,13 @@ pub record Limited (d : List ℕ) : Type 0 where
   pub entries : Between 0 256 (wordAt d 0 3)
   pub rules : Between 0 256 (wordAt d 0 4)
   pub edges : Between 0 4096 (wordAt d 0 5)
+  pub query : wordAt d 0 6 < wordAt d 0 1
 
 pub limited : (d : List ℕ) → headerCheck d ≡ Good → Limited d
 unfolding headerCheck inLimits
 limited d e =
-    let c = scan-good (limitCheck d) 6 .0 (and-good (scan (limitCheck d) 6) _ .0 e .0) in
+    let a = and-good (scan (limitCheck d) 6) _ .0 e in
+    let c = scan-good (limitCheck d) 6 .0 (a .0) in
     record {
       nodes = between-true _ _ _ .0 (must-good _ 4 0 .0 (c 0 (omega arith)));
       nonterminals = between-true _ _ _ .0 (must-good _ 4 1 .0 (c 1 (omega arith)));
@@ -57,6 +60,7 @@ limited d e =
       entries = between-true _ _ _ .0 (must-good _ 4 3 .0 (c 3 (omega arith)));
       rules = between-true _ _ _ .0 (must-good _ 4 4 .0 (c 4 (omega arith)));
       edges = between-true _ _ _ .0 (must-good _ 4 5 .0 (c 5 (omega arith)));
+      query = ltb-true _ _ (must-good _ 4 6 .0 (a .1));
     }
 
 pub handed :
@@ -118,6 +122,22 @@ right-deck d e =
       edges = i .1;
     }
 
+-- 10 is asked last
+module _ (d : List ℕ) (rules edges : ℕ) where
+  pub read-stop : {r : Refusal} → deckCheck d ≡ Bad r → readCheck d rules edges ≡ Bad r
+  unfolding readCheck
+  read-stop e = and-stop _ e
+
+  pub read-next : deckCheck d ≡ Good → readCheck d rules edges ≡ listsRoom (headerOf d) rules edges
+  unfolding readCheck
+  read-next e = and-next e
+
+pub lists-fit : (h : Header) (rules edges : ℕ) → listsRoom h rules edges ≡ Good → (3 * h .rules ≤ rules) × (3 * h .edges ≤ edges)
+unfolding roomCheck
+lists-fit h rules edges e =
+    let b = and-good (roomCheck 3 (3 * h .rules) rules) (roomCheck 4 (3 * h .edges) edges) .0 e in
+    (leb-true _ _ (must-good _ 10 3 .0 (b .0)), leb-true _ _ (must-good _ 10 4 .0 (b .1)))
+
 -- all passed
 pub record Accepted (d : List ℕ) (rules edges : ℕ) : Type 0 where
   pub deck : RightDeck d
@@ -125,12 +145,8 @@ pub record Accepted (d : List ℕ) (rules edges : ℕ) : Type 0 where
   pub edges-fit : 3 * wordAt d 0 5 ≤ edges
 
 pub accepted : (d : List ℕ) (rules edges : ℕ) → readCheck d rules edges ≡ Good → Accepted d rules edges
-unfolding readCheck roomCheck
+unfolding readCheck
 accepted d rules edges e =
     let a = and-good (deckCheck d) _ .0 e in
-    let b = and-good (roomCheck 3 (3 * wordAt d 0 4) rules) (roomCheck 4 (3 * wordAt d 0 5) edges) .0 (a .1) in
-    record {
-      deck = right-deck d (a .0);
-      rules-fit = leb-true _ _ (must-good _ 10 3 .0 (b .0));
-      edges-fit = leb-true _ _ (must-good _ 10 4 .0 (b .1));
-    }
+    let fit = lists-fit (headerOf d) rules edges (a .1) in
+    record { deck = right-deck d (a .0); rules-fit = fit .0; edges-fit = fit .1 }

@@ -1,63 +1,40 @@
 -- The map of a deck whose entries are right: its kinds rise, and a kind's entry is the one that the search by halves finds. Assumes nothing.
 use mathlib.Core.List.{List}
 use mathlib.Core.Bool.{true, false, _&&_}
-use mathlib.Core.Path.{_≡_, _∙_}
+use mathlib.Core.Path.{_≡_, sym, _∙_}
 use mathlib.Core.Logic.{_≢_}
-use Prim.Native.Nat.{ℕ, suc, _-_, _≤_, _<_}
+use Prim.Native.Nat.{ℕ, suc, _-_, _<_}
 use native.Mathlib.Nat.{le-refl}
 use native.Mathlib.Omega.{arith}
 use lib.ListN.{getD}
 use lib.Dec.{eqb, ltb}
 use borrow.Author.Tests.{ltb-true, lt-ltb, le-ltb, ne-eqb}
 use borrow.Table.Steps.{cases}
-use Rattle.words.proofs.First.{first-same}
+use Rattle.words.proofs.First.{first-le, first-same}
 use Rattle.words.proofs.Refusals.{must-good, scan-good}
 use Rattle.lists.specs.Lists.{between}
 use Rattle.lists.proofs.Right.{both, Between, between-true}
 use Rattle.deck.specs.Blocks.{wordAt, recordAt}
 use Rattle.deck.specs.Reads.{rising, rightEntry, entryCheck, entryOf}
-use Rattle.deck.specs.Stages.{Mapped, Kinds, Rising, lowerOf, placeOf, foundOf}
-use Rattle.deck.specs.declared.Found.the-variants.{At, Nothing}
-use Rattle.deck.proofs.Rising.{entry-hit, entry-end, entry-miss, lower-known}
+use Rattle.deck.specs.Stages.{Mapped, Kinds, Rising, upperOf, foundOf}
+use Rattle.deck.specs.declared.Found.the-variants.{Label, Nothing}
+use Rattle.deck.proofs.Rising.{entry-hit, entry-miss}
 
--- what is found tells whether the kind is there
-module _ (l : List ℕ) (n kind : ℕ) where
-  pub found-some : {m : ℕ} → foundOf l n kind ≡ At m → ltb (placeOf l n kind) n ≡ true
+-- what is found tells whether the kind is there, and its label
+module _ (d : List ℕ) (kind : ℕ) where
+  pub found-some : {x : ℕ} → foundOf d kind ≡ Label x → (ltb (entryOf d kind) (wordAt d 0 3) ≡ true) × (x ≡ recordAt d 2 (entryOf d kind) 1)
   unfolding foundOf
-  found-some {m} e =
-      cases (ltb (placeOf l n kind) n)
-      (λ t. t)
+  found-some {x} e =
+      cases (ltb (entryOf d kind) (wordAt d 0 3))
+      (λ t. let g = rw t at e in (t, cc))
       (λ f. let g = rw f at e in let z : _≡_ {A = ℕ} 0 1 = cc in absurd (omega arith))
 
-  pub found-none : foundOf l n kind ≡ Nothing → ltb (placeOf l n kind) n ≡ false
+  pub found-none : foundOf d kind ≡ Nothing → ltb (entryOf d kind) (wordAt d 0 3) ≡ false
   unfolding foundOf
   found-none e =
-      cases (ltb (placeOf l n kind) n)
+      cases (ltb (entryOf d kind) (wordAt d 0 3))
       (λ t. let g = rw t at e in let z : _≡_ {A = ℕ} 0 1 = cc in absurd (omega arith))
       (λ f. f)
-
--- what the search by halves finds among kinds that rise
-module _ (l : List ℕ) (n : ℕ) (up : Rising l n) (kind : ℕ) where
-  pub known : placeOf l n kind < n → lowerOf l n kind ≡ placeOf l n kind
-  unfolding lowerOf placeOf
-  known = lower-known (λ m. getD l m 0) n up kind
-
-  nothing : placeOf l n kind ≡ n → foundOf l n kind ≡ Nothing
-  unfolding foundOf
-  nothing e = rw (e, le-ltb n n (le-refl n))
-
-  pub found-end : n ≤ lowerOf l n kind → foundOf l n kind ≡ Nothing
-  unfolding lowerOf placeOf
-  found-end h = nothing (entry-end (λ m. getD l m 0) n up kind h)
-
-  module _ (h : lowerOf l n kind < n) where
-    pub found-other : getD l (lowerOf l n kind) 0 ≢ kind → foundOf l n kind ≡ Nothing
-    unfolding lowerOf placeOf
-    found-other e = nothing (entry-miss (λ m. getD l m 0) n up kind h e)
-
-    pub found-at : getD l (lowerOf l n kind) 0 ≡ kind → foundOf l n kind ≡ At (lowerOf l n kind)
-    unfolding lowerOf placeOf foundOf
-    found-at e = rw (entry-hit (λ m. getD l m 0) n up kind h e, lt-ltb (lowerOf l n kind) n h)
 
 module _ (d : List ℕ) (ok : Mapped d) where
   right : (m : ℕ) → m < wordAt d 0 3 → (rising d m ≡ true) × (between 1 (wordAt d 0 2) (recordAt d 2 m 1) ≡ true)
@@ -79,9 +56,15 @@ module _ (d : List ℕ) (ok : Mapped d) where
     pub rising-kinds : Rising l (wordAt d 0 3)
     rising-kinds m h = rw (is m (omega arith), is (suc m) h) (kinds-rise m h)
 
-    pub place-entry : (kind : ℕ) → placeOf l (wordAt d 0 3) kind ≡ entryOf d kind
-    unfolding placeOf entryOf
-    place-entry kind = first-same _ _ _ (λ m h. rw (is m h))
+    -- what the search by halves finds
+    module _ (kind : ℕ) where
+      pub found-at : (m : ℕ) → m < wordAt d 0 3 → getD l m 0 ≡ kind → foundOf d kind ≡ Label (recordAt d 2 m 1)
+      unfolding entryOf foundOf
+      found-at m h e = rw (entry-hit (λ m. recordAt d 2 m 0) (wordAt d 0 3) kinds-rise kind m h (sym (is m h) ∙ e), lt-ltb m (wordAt d 0 3) h)
 
-    pub lower-entry : (kind : ℕ) → entryOf d kind < wordAt d 0 3 → lowerOf l (wordAt d 0 3) kind ≡ entryOf d kind
-    lower-entry kind h = known l (wordAt d 0 3) rising-kinds kind (rw (place-entry kind) h) ∙ place-entry kind
+      pub found-nothing : ((m : ℕ) → suc m ≡ upperOf l (wordAt d 0 3) kind → getD l m 0 ≢ kind) → foundOf d kind ≡ Nothing
+      unfolding entryOf upperOf foundOf
+      found-nothing other =
+          let same = first-same (λ m. ltb kind (getD l m 0)) (wordAt d 0 3) (λ m. ltb kind (recordAt d 2 m 0)) (λ m h. rw (is m h)) in
+          let none = entry-miss (λ m. recordAt d 2 m 0) (wordAt d 0 3) kinds-rise kind (λ m e q. other m (e ∙ sym same) (is m (omega (arith, e, first-le (λ m. ltb kind (recordAt d 2 m 0)) (wordAt d 0 3))) ∙ q)) in
+          rw (none, le-ltb (wordAt d 0 3) (wordAt d 0 3) (le-refl (wordAt d 0 3)))

@@ -1,15 +1,15 @@
 -- Numbers that rise strictly, and the search by halves among them. Assumes nothing.
 use mathlib.Core.Bool.{Bool, true, false}
-use mathlib.Core.Path.{_≡_, ap, _∙_}
+use mathlib.Core.Path.{_≡_}
 use mathlib.Core.Logic.{_≢_, ⊎-elim}
 use Prim.Native.Nat.{ℕ, zero, suc, _+_, _≤_, _<_}
 use native.Mathlib.Nat.{not-suc-le-zero, le-of-suc-le-suc, eq-or-lt-of-le, le-refl, not-le-of-lt}
 use native.Mathlib.Omega.{arith}
-use lib.Dec.{leb, ltb, eqb}
-use borrow.Author.Tests.{ltb-true, ltb-false, leb-true, leb-false, le-leb, lt-leb, eqb-true, eq-eqb, ne-eqb}
+use lib.Dec.{ltb, eqb}
+use borrow.Author.Tests.{ltb-true, ltb-false, lt-ltb, le-ltb, eq-eqb, ne-eqb}
 use borrow.Table.Steps.{cases}
 use Rattle.words.specs.First.{first}
-use Rattle.words.proofs.First.{first-at, first-none, first-here}
+use Rattle.words.proofs.First.{first-at, first-le, first-none, first-here, first-end}
 
 -- p holds nowhere below low, and everywhere from high to n
 pub record Bracket (p : ℕ → Bool) (n low high : ℕ) : Type 0 where
@@ -43,54 +43,47 @@ module _ (f : ℕ → ℕ) (n : ℕ) (next : (m : ℕ) → suc m < n → f m < f
   weakly i j l h = ⊎-elim (λ e. rw e (le-refl (f j))) (λ k. omega (arith, rises i j k h)) (eq-or-lt-of-le l)
 
   module _ (x : ℕ) where
-    -- the first that is x, and the first that is not below x
+    -- the first that is x, and the first that is above x
     abbrev pub entry : ℕ
     entry = first (λ m. eqb (f m) x) n
 
-    abbrev pub lower : ℕ
-    lower = first (λ m. leb x (f m)) n
+    abbrev pub upper : ℕ
+    upper = first (λ m. ltb x (f m)) n
 
-    module _ {low high : ℕ} (b : Bracket (λ m. leb x (f m)) n low high) (m : ℕ) (l : low ≤ m) (h : m < high) where
-      pub bracket-up : f m < x → Bracket (λ m. leb x (f m)) n (m + 1) high
+    module _ {low high : ℕ} (b : Bracket (λ m. ltb x (f m)) n low high) (m : ℕ) (l : low ≤ m) (h : m < high) where
+      pub bracket-up : f m ≤ x → Bracket (λ m. ltb x (f m)) n (m + 1) high
       bracket-up e = record {
         low-le = omega arith;
         high-le = b .high-le;
-        below = λ k k<. lt-leb x (f k) (omega (arith, weakly k m (omega arith) (omega (arith, b))));
+        below = λ k k<. le-ltb x (f k) (omega (arith, weakly k m (omega arith) (omega (arith, b))));
         above = b .above;
       }
 
-      pub bracket-down : x ≤ f m → Bracket (λ m. leb x (f m)) n low m
+      pub bracket-down : x < f m → Bracket (λ m. ltb x (f m)) n low m
       bracket-down e = record {
         low-le = l;
         high-le = omega (arith, b);
         below = b .below;
-        above = λ k m≤ k<. le-leb x (f k) (omega (arith, weakly m k m≤ k<));
+        above = λ k m≤ k<. lt-ltb x (f k) (omega (arith, weakly m k m≤ k<));
       }
 
-    under : (k : ℕ) → k < lower → eqb (f k) x ≡ false
-    under k h = ne-eqb (f k) x (λ e. omega (arith, leb-false x (f k) (first-none (λ m. leb x (f m)) n k h)))
+    pub entry-hit : (m : ℕ) → m < n → f m ≡ x → entry ≡ m
+    entry-hit m h e =
+        first-at _ n m (omega arith) (λ k l. ne-eqb (f k) x (λ q. omega (arith, rises k m l h))) (λ _. eq-eqb (f m) x e)
 
-    pub entry-hit : lower < n → f lower ≡ x → entry ≡ lower
-    entry-hit l e = first-at _ n lower (omega arith) under (λ _. eq-eqb _ _ e)
+    -- only the last that is not above x can be x
+    pub entry-miss : ((m : ℕ) → suc m ≡ upper → f m ≢ x) → entry ≡ n
+    entry-miss other = first-end _ n .1 (λ k h. ne-eqb (f k) x (λ q. cases (ltb k upper) (under k q) (λ t. past k h q (ltb-false k upper t))))
+      where
+        not-above : (k : ℕ) → k < upper → f k ≤ x
+        not-above k h = ltb-false x (f k) (first-none (λ m. ltb x (f m)) n k h)
 
-    pub entry-end : n ≤ lower → entry ≡ n
-    entry-end l = first-at _ n n (le-refl n) (λ k h. under k (omega arith)) (λ h. absurd (omega arith))
+        past : (k : ℕ) → k < n → f k ≡ x → upper ≤ k → ⊥
+        past k h q l = omega (arith, ltb-true x (f upper) (first-here (λ m. ltb x (f m)) n (omega arith)), weakly upper k l h)
 
-    pub entry-miss : lower < n → f lower ≢ x → entry ≡ n
-    entry-miss l e =
-        let least = leb-true x (f lower) (first-here (λ m. leb x (f m)) n l) in
-        first-at _ n n (le-refl n)
-        (λ k h.
-        cases (ltb k lower)
-        (λ t. under k (ltb-true k lower t))
-        (λ t.
-        ne-eqb (f k) x
-        (λ q. ⊎-elim (λ is. e (ap f is ∙ q)) (λ g. omega (arith, rises lower k g h)) (eq-or-lt-of-le (ltb-false k lower t)))))
-        (λ h. absurd (omega arith))
-
-    pub lower-known : entry < n → lower ≡ entry
-    lower-known l =
-        let at = eqb-true (f entry) x (first-here (λ m. eqb (f m) x) n l) in
-        first-at _ n entry (omega arith)
-        (λ k h. lt-leb x (f k) (omega (arith, rises k entry h l)))
-        (λ _. le-leb x (f entry) (omega arith))
+        under : (k : ℕ) → f k ≡ x → ltb k upper ≡ true → ⊥
+        under k q t =
+            ⊎-elim
+            (λ e. other k e q)
+            (λ l. omega (arith, rises k (suc k) (le-refl (suc k)) (omega (arith, first-le (λ m. ltb x (f m)) n)), not-above (suc k) l))
+            (eq-or-lt-of-le (ltb-true k upper t))

@@ -28,8 +28,12 @@ headerOf d = record {
   query = wordAt d 0 6;
 }
 
+-- the first three of them
+abbrev pub numbersIn : Header → Numbers
+numbersIn h = record { nodes = h .nodes; nonterminals = h .nonterminals; labels = h .labels }
+
 abbrev pub numbersOf : List ℕ → Numbers
-numbersOf d = record { nodes = wordAt d 0 0; nonterminals = wordAt d 0 1; labels = wordAt d 0 2 }
+numbersOf d = numbersIn (headerOf d)
 
 -- 1: "deck empty, not whole blocks, or over 29,696 bytes"
 abbrev pub rightSize : List ℕ → Bool

@@ -2,19 +2,20 @@
 use mathlib.Core.List.{List}
 use mathlib.Core.Bool.{cond}
 use mathlib.Core.Path.{_≡_}
-use Prim.Native.Nat.{ℕ, suc, _≤_, _<_}
+use Prim.Native.Nat.{ℕ, suc, _*_, _≤_, _<_}
 use lib.ListN.{length, getD}
-use lib.Dec.{eqb, leb, ltb}
+use lib.Dec.{ltb}
 use Rattle.words.specs.declared.Check.{Check}
 use Rattle.words.specs.declared.Check.the-variants.{Good}
 use Rattle.words.specs.First.{first}
 use Rattle.words.specs.Refusals.{_andThen_, scan}
+use Rattle.lists.specs.Lists.{roomCheck}
 use Rattle.deck.specs.Blocks.{blocks, wordAt, firstOf, recordAt}
-use Rattle.deck.specs.Reads.{headerOf, fillCheck, totalsCheck, entryCheck, ruleRecordCheck, edgeRecordCheck}
+use Rattle.deck.specs.Reads.{headerOf, fillCheck, totalsCheck, entryCheck, ruleRecordCheck, entryOf, edgeRecordCheck}
 use Rattle.deck.specs.declared.Header.{Header}
 use Rattle.deck.specs.declared.Sections.{Sections}
 use Rattle.deck.specs.declared.Found.{Found}
-use Rattle.deck.specs.declared.Found.the-variants.{At, Nothing}
+use Rattle.deck.specs.declared.Found.the-variants.{Label, Nothing}
 
 -- the first blocks of the map, the rules and the edges
 abbrev pub sectionsOf : List ℕ → Sections
@@ -49,17 +50,13 @@ Kinds d l = (m : ℕ) → m < wordAt d 0 3 → getD l m 0 ≡ recordAt d 2 m 0
 abbrev pub Rising : List ℕ → ℕ → Type 0
 Rising l n = (m : ℕ) → suc m < n → getD l m 0 < getD l (suc m) 0
 
--- the first of n kinds that is not below this one
-unfoldable pub lowerOf : List ℕ → ℕ → ℕ → ℕ
-lowerOf l n kind = first (λ m. leb kind (getD l m 0)) n
+-- the first of n kinds that is above this one: those before it are not
+unfoldable pub upperOf : List ℕ → ℕ → ℕ → ℕ
+upperOf l n kind = first (λ m. ltb kind (getD l m 0)) n
 
--- where this kind is among n, or n where it is not
-unfoldable pub placeOf : List ℕ → ℕ → ℕ → ℕ
-placeOf l n kind = first (λ m. eqb (getD l m 0) kind) n
-
--- the same as an answer
-unfoldable pub foundOf : List ℕ → ℕ → ℕ → Found
-foundOf l n kind = cond (ltb (placeOf l n kind) n) (At (placeOf l n kind)) Nothing
+-- the label of the map entry that has this kind, or that none has it
+unfoldable pub foundOf : List ℕ → ℕ → Found
+foundOf d kind = cond (ltb (entryOf d kind) (wordAt d 0 3)) (Label (recordAt d 2 (entryOf d kind) 1)) Nothing
 
 -- the checks from 6 on, and from 5 on
 abbrev pub recordsCheck : List ℕ → Check
@@ -70,3 +67,7 @@ recordsCheck d =
 
 abbrev pub filledCheck : List ℕ → Check
 filledCheck d = scan (fillCheck d) (blocks d) andThen totalsCheck d andThen recordsCheck d
+
+-- 10, behind the deck's own checks
+abbrev pub listsRoom : Header → ℕ → ℕ → Check
+listsRoom h rules edges = roomCheck 3 (3 * h .rules) rules andThen roomCheck 4 (3 * h .edges) edges

@@ -8,6 +8,7 @@ ghost use Rattle.deck.specs.Reads.{headerOf, frameCheck, limitCheck, hea
 ghost use Rattle.deck.specs.Stages.{sectionsOf};
 use crate::Header;
 use crate::Sections;
+use crate::reader::block;
 use lists::in_limits;
 use words::Check;
 use words::and_then;
@@ -92,7 +93,7 @@ fn right_order(deck: &[u8], b: usize) -> bool
     right_type(deck, b)
 }
 
-fn frame(deck: &[u8], b: usize) -> Check
+pub(crate) fn frame(deck: &[u8], b: usize) -> Check
     requires { ⌜ b * 512 + 512 ≤ length (now deck) ⌝ }
     ensures { λ r. ⌜ r ≡ frameCheck (now (deck .entry)) b ⌝ }
 {
@@ -109,7 +110,7 @@ pub(crate) fn frames(deck: &[u8], n: usize) -> Check
 {
     let mut b = 0;
     while b < n {
-        let c = frame(deck, b);
+        let c = block(deck, b);
         if let Check::Bad(_) = c {
             return c;
         }

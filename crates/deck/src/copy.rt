@@ -1,15 +1,16 @@
 // Writes the two lists, once every check has passed.
 ghost use mathlib.Core.Path.{_≡_};
 ghost use Prim.Native.Nat.{_*_, _/_, _%_, _≤_, _<_};
-ghost use lib.ListN.{length};
+ghost use lib.ListN.{length, set};
 ghost use Rattle.words.specs.Tab.{over};
 ghost use Rattle.deck.specs.Reads.{rulesOf, edgesOf, edgeWord};
 ghost use Rattle.deck.specs.Stages.{Handed, Mapped, Kinds, Known};
+use crate::Found;
 use crate::Header;
 use crate::Sections;
 use crate::records::edge_word;
+use crate::records::find;
 use crate::records::kinds_of;
-use crate::records::label_of;
 use crate::records::rule_word;
 
 pub(crate) fn put_rules(deck: &[u8], h: Header, s: Sections, rules: &mut [u16])
@@ -25,22 +26,32 @@ pub(crate) fn put_rules(deck: &[u8], h: Header, s: Sections, rules: &mut [u16])
     }
 }
 
-// Word w of the edge list: its edge's label stands for its kind.
-fn edge_value(deck: &[u8], h: Header, s: Sections, kinds: &[u16; 256], w: usize) -> u16
+// Word w of the edge list: an edge's label stands for its kind.
+fn put_edge_word(
+    deck: &[u8],
+    h: Header,
+    s: Sections,
+    kinds: &[u16; 256],
+    w: usize,
+    edges: &mut [u16],
+)
     requires { ⌜ Handed (now deck) h s ⌝ }
     requires { ⌜ Mapped (now deck) ⌝ }
     requires { ⌜ Kinds (now deck) (now kinds) ⌝ }
     requires { ⌜ Known (now deck) ⌝ }
-    requires { ⌜ w < 3 * h .edges ⌝ }
-    ensures { λ r. ⌜ r ≡ edgeWord (now (deck .entry)) (w / 3) (w % 3) ⌝ }
+    requires { ⌜ (w < 3 * h .edges) × (w < length (now edges)) ⌝ }
+    ensures { λ _. ⌜ now (edges .exit) ≡ set (now (edges .entry)) w (edgeWord (now (deck .entry)) (w / 3) (w % 3)) ⌝ }
 {
-    let e = w / 3;
     let k = w % 3;
-    let word = edge_word(deck, s, e, k);
-    if k == 1 {
-        return label_of(deck, h, s, kinds, word);
+    let word = edge_word(deck, s, w / 3, k);
+    if k != 1 {
+        edges[w] = word;
+        return;
     }
-    word
+    let found = find(deck, h, s, kinds, word);
+    if let Found::Label(label) = found {
+        edges[w] = label;
+    }
 }
 
 pub(crate) fn put_edges(deck: &[u8], h: Header, s: Sections, edges: &mut [u16])
@@ -54,7 +65,7 @@ pub(crate) fn put_edges(deck: &[u8], h: Header, s: Sections, edges: &mut [u16])
     let n = 3 * h.edges;
     let mut w = 0;
     while w < n {
-        edges[w] = edge_value(deck, h, s, &kinds, w);
+        put_edge_word(deck, h, s, &kinds, w, edges);
         w += 1;
     }
 }

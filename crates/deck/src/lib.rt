@@ -2,13 +2,15 @@
 // Its refusals come in document 01's order, stage by stage, and nothing is written before the last check has passed.
 mod blocks;
 mod copy;
+mod reader;
 mod records;
 
 ghost use mathlib.Core.Path.{_≡_};
+ghost use Prim.Native.Nat.{_≤_};
 ghost use lib.ListN.{length};
 ghost use Rattle.words.specs.declared.Check.the-variants.{Good};
 ghost use Rattle.deck.specs.Reads.{rightSize, sizeCheck, headerCheck, deckCheck, readCheck, rulesOf, edgesOf, answered, written};
-ghost use Rattle.deck.specs.Stages.{Handed, recordsCheck, filledCheck};
+ghost use Rattle.deck.specs.Stages.{Handed, recordsCheck, filledCheck, listsRoom};
 use lists::room;
 use words::Check;
 use words::Refusal;
@@ -38,9 +40,9 @@ struct Sections {
     edges: usize,
 }
 
-// A map entry, or none.
+// The label of a kind, or nothing where no map entry has it.
 enum Found {
-    At(usize),
+    Label(u16),
     Nothing,
 }
 
@@ -112,14 +114,11 @@ fn deck_check(deck: &[u8]) -> Check
     filled_check(deck)
 }
 
-fn read_check(deck: &[u8], rules: usize, edges: usize) -> Check
-    ensures { λ r. ⌜ r ≡ readCheck (now (deck .entry)) rules edges ⌝ }
+// 10: the rule list, then the edge list.
+fn room_check(h: Header, rules: usize, edges: usize) -> Check
+    requires { ⌜ (h .rules ≤ 256) × (h .edges ≤ 4096) ⌝ }
+    ensures { λ r. ⌜ r ≡ listsRoom h rules edges ⌝ }
 {
-    let checked = deck_check(deck);
-    if let Check::Bad(_) = checked {
-        return checked;
-    }
-    let h = blocks::read_header(deck);
     and_then(room(3, 3 * h.rules, rules), room(4, 3 * h.edges, edges))
 }
 
@@ -128,14 +127,17 @@ pub fn read(deck: &[u8], rules: &mut [u16], edges: &mut [u16]) -> ReadAnswer
     ensures { λ _. ⌜ now (rules .exit) ≡ written (readCheck (now (deck .entry)) (length (now (rules .entry))) (length (now (edges .entry)))) (rulesOf (now (deck .entry))) (now (rules .entry)) ⌝ }
     ensures { λ _. ⌜ now (edges .exit) ≡ written (readCheck (now (deck .entry)) (length (now (rules .entry))) (length (now (edges .entry)))) (edgesOf (now (deck .entry))) (now (edges .entry)) ⌝ }
 {
-    match read_check(deck, rules.len(), edges.len()) {
-        Check::Good => {
-            let h = blocks::read_header(deck);
-            let s = blocks::sections(deck);
-            copy::put_rules(deck, h, s, rules);
-            copy::put_edges(deck, h, s, edges);
-            ReadAnswer::Read(h)
-        }
-        Check::Bad(r) => ReadAnswer::Refused(r),
+    let checked = deck_check(deck);
+    if let Check::Bad(r) = checked {
+        return ReadAnswer::Refused(r);
     }
+    let h = blocks::read_header(deck);
+    let s = blocks::sections(deck);
+    let fits = room_check(h, rules.len(), edges.len());
+    if let Check::Bad(r) = fits {
+        return ReadAnswer::Refused(r);
+    }
+    copy::put_rules(deck, h, s, rules);
+    copy::put_edges(deck, h, s, edges);
+    ReadAnswer::Read(h)
 }

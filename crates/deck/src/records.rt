@@ -3,8 +3,8 @@ ghost use mathlib.Core.Path.{_≡_};
 ghost use Prim.Native.Nat.{_+_, _*_, _/_, _%_, _≤_, _<_};
 ghost use Rattle.words.specs.Refusals.{scan};
 ghost use Rattle.deck.specs.Blocks.{wordAt, recordAt};
-ghost use Rattle.deck.specs.Reads.{rising as risingOf, rightEntry, entryCheck, ruleRecordCheck, rightNodes, rightKind, edgeRecordCheck, entryOf};
-ghost use Rattle.deck.specs.Stages.{Placed, Handed, Mapped, Kinds, Rising, lowerOf, foundOf};
+ghost use Rattle.deck.specs.Reads.{rising as risingOf, rightEntry, entryCheck, ruleRecordCheck, rightNodes, rightKind, edgeRecordCheck};
+ghost use Rattle.deck.specs.Stages.{Placed, Handed, Mapped, Kinds, Rising, upperOf, foundOf};
 use crate::Found;
 use crate::Header;
 use crate::Sections;
@@ -148,17 +148,17 @@ pub(crate) fn kinds_of(deck: &[u8], h: Header, s: Sections) -> [u16; 256]
     kinds
 }
 
-// The first of n kinds that is not below this one, by halves.
-fn lower(kinds: &[u16; 256], n: usize, kind: u16) -> usize
+// How many of n kinds are not above this one, by halves.
+fn upper(kinds: &[u16; 256], n: usize, kind: u16) -> usize
     requires { ⌜ n ≤ 256 ⌝ }
     requires { ⌜ Rising (now kinds) n ⌝ }
-    ensures { λ r. ⌜ r ≡ lowerOf (now (kinds .entry)) n kind ⌝ }
+    ensures { λ r. ⌜ (r ≡ upperOf (now (kinds .entry)) n kind) × (r ≤ n) ⌝ }
 {
     let mut low = 0;
     let mut high = n;
     while low < high {
         let middle = low + (high - low) / 2;
-        if kinds[middle] < kind {
+        if kinds[middle] <= kind {
             low = middle + 1;
         } else {
             high = middle;
@@ -167,31 +167,23 @@ fn lower(kinds: &[u16; 256], n: usize, kind: u16) -> usize
     low
 }
 
-fn find(kinds: &[u16; 256], n: usize, kind: u16) -> Found
-    requires { ⌜ n ≤ 256 ⌝ }
-    requires { ⌜ Rising (now kinds) n ⌝ }
-    ensures { λ r. ⌜ r ≡ foundOf (now (kinds .entry)) n kind ⌝ }
-{
-    let m = lower(kinds, n, kind);
-    if n <= m {
-        return Found::Nothing;
-    }
-    if kinds[m] != kind {
-        return Found::Nothing;
-    }
-    Found::At(m)
-}
-
-// The label of a kind that some entry has.
-pub(crate) fn label_of(deck: &[u8], h: Header, s: Sections, kinds: &[u16; 256], kind: u16) -> u16
+// The label of a kind, or nothing. Only the last entry that is not above the kind can hold it.
+pub(crate) fn find(deck: &[u8], h: Header, s: Sections, kinds: &[u16; 256], kind: u16) -> Found
     requires { ⌜ Handed (now deck) h s ⌝ }
     requires { ⌜ Mapped (now deck) ⌝ }
     requires { ⌜ Kinds (now deck) (now kinds) ⌝ }
-    requires { ⌜ entryOf (now deck) kind < wordAt (now deck) 0 3 ⌝ }
-    ensures { λ r. ⌜ r ≡ recordAt (now (deck .entry)) 2 (entryOf (now (deck .entry)) kind) 1 ⌝ }
+    ensures { λ r. ⌜ r ≡ foundOf (now (deck .entry)) kind ⌝ }
 {
-    let m = lower(kinds, h.entries, kind);
-    map_word(deck, s, m, 1)
+    let behind = upper(kinds, h.entries, kind);
+    if behind == 0 {
+        return Found::Nothing;
+    }
+    let m = behind - 1;
+    let label = map_word(deck, s, m, 1);
+    if kinds[m] == kind {
+        return Found::Label(label);
+    }
+    Found::Nothing
 }
 
 fn right_nodes(deck: &[u8], h: Header, s: Sections, e: usize) -> bool
@@ -212,10 +204,11 @@ fn right_kind(deck: &[u8], h: Header, s: Sections, kinds: &[u16; 256], e: usize)
     requires { ⌜ e ≤ 4096 ⌝ }
     ensures { λ r. ⌜ r ≡ rightKind (now (deck .entry)) e ⌝ }
 {
-    match find(kinds, h.entries, edge_word(deck, s, e, 1)) {
-        Found::At(_) => true,
-        Found::Nothing => false,
+    let found = find(deck, h, s, kinds, edge_word(deck, s, e, 1));
+    if let Found::Label(_) = found {
+        return true;
     }
+    false
 }
 
 fn edge(deck: &[u8], h: Header, s: Sections, kinds: &[u16; 256], e: usize) -> Check

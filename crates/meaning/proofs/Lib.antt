@@ -22,5 +22,3 @@ pub mod Bits
 pub mod Rows
 pub mod Nets
 pub mod Computed
-pub mod Certain
-pub mod Examples

@@ -8,4 +8,3 @@ pub mod Final
 pub mod Lengths
 pub mod Rows
 pub mod Computed
-pub mod Examples

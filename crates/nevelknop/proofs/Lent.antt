@@ -8,13 +8,20 @@ use lib.Seq.{take-at, take-all}
 use Rattle.words.specs.declared.Check.{Check}
 use Rattle.words.specs.declared.Check.the-variants.{Good, Bad}
 use Rattle.words.specs.Tab.{over}
-use Rattle.words.specs.Packed.{unpacked, packed, unpackedInto, packedInto}
-use Rattle.words.proofs.Packed.{repacked}
+use Rattle.packing.specs.Packed.{unpacked, packed, unpackedInto, packedInto}
+use Rattle.packing.proofs.Packed.{repacked}
 use Rattle.meaning.specs.Net.{Net}
 use Rattle.closure.specs.declared.RunAnswer.{RunAnswer}
 use Rattle.closure.specs.Runs.{RunIs}
 use Rattle.nevelknop.specs.Calls.{wordsOf, cellWords, runNumber, RunBytes}
 use Rattle.nevelknop.proofs.Orders.{length-unpacked}
+
+-- what fits into an array of m words fits into what a call left of it; said apart, so that no proof searches its whole context for it
+pub within : {n m k : ℕ} → n ≤ m → k ≡ m → n ≤ k
+within h e = omega arith
+
+pub cells-within : (words : ℕ) {n m : ℕ} → n ≡ min words 2048 → m ≡ 2048 → n ≤ m
+cells-within words h e = omega arith
 
 -- what is unpacked into an array t, up to the last word that fits
 front : (k : ℕ) (s t u : List ℕ) (n : ℕ) → u ≡ unpackedInto k s t → n ≡ min (length s / k) (length t) → take n u ≡ unpacked k s n
@@ -34,6 +41,10 @@ pub packs : (k : ℕ) (ws s : List ℕ) → length ws ≤ length s / k → packe
 packs k ws s h =
     let e : min (length ws) (length s / k) ≡ length ws = omega arith in
     rw (e, take-all (length ws) ws (omega arith))
+
+-- the words of a table or of lengths, which were as many
+pub packs-cells : (k : ℕ) (ws s : List ℕ) → length ws ≡ length (cellWords k s) → packedInto k ws s ≡ over (packed k ws) s
+packs-cells k ws s e = packs k ws s (omega (arith, length-unpacked k s (min (length s / k) 2048)))
 
 abbrev pub Bytes : List ℕ → Type 0
 Bytes s = (i : ℕ) → getD s i 0 < 256

@@ -12,7 +12,7 @@ use Rattle.words.specs.declared.Check.{Check}
 use Rattle.words.specs.declared.Check.the-variants.{Good, Bad}
 use Rattle.words.specs.declared.Refusal.{Refusal}
 use Rattle.words.specs.Refusals.{_andThen_}
-use Rattle.words.specs.Packed.{unpacked}
+use Rattle.packing.specs.Packed.{unpacked}
 use Rattle.words.proofs.Refusals.{must-good, and-good, and-bad, and-next, and-stop, and-assoc}
 use Rattle.words.proofs.Tab.{length-tab}
 use Rattle.lists.specs.declared.Numbers.{Numbers}

@@ -6,7 +6,7 @@ use lib.ListN.{length}
 use Rattle.words.specs.declared.Check.{Check}
 use Rattle.words.specs.declared.Check.the-variants.{Good}
 use Rattle.words.specs.Tab.{over}
-use Rattle.words.specs.Packed.{packed}
+use Rattle.packing.specs.Packed.{packed}
 use Rattle.words.proofs.Refusals.{good-bad, bad-same, and-good}
 use Rattle.meaning.proofs.Recorded.{recorded-one}
 use Rattle.lists.specs.declared.Numbers.{Numbers}

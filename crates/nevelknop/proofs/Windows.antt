@@ -10,9 +10,9 @@ use Rattle.words.specs.declared.Check.{Check}
 use Rattle.words.specs.declared.Check.the-variants.{Good, Bad}
 use Rattle.words.specs.declared.Refusal.{Refusal}
 use Rattle.words.specs.Tab.{over}
-use Rattle.words.specs.Packed.{packed, packedInto}
+use Rattle.packing.specs.Packed.{packed, packedInto}
 use Rattle.words.proofs.Tab.{over-none}
-use Rattle.words.proofs.Packed.{length-packed, pack-behind}
+use Rattle.packing.proofs.Packed.{length-packed, pack-behind}
 use Rattle.meaning.specs.Net.{Net, Sane}
 use Rattle.meaning.specs.Table.{at}
 use Rattle.meaning.specs.Lengths.{Recorded}

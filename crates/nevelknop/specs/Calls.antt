@@ -9,7 +9,7 @@ use Rattle.words.specs.declared.Check.the-variants.{Good, Bad}
 use Rattle.words.specs.declared.Refusal.{Refusal}
 use Rattle.words.specs.Refusals.{must, _andThen_}
 use Rattle.words.specs.Tab.{over}
-use Rattle.words.specs.Packed.{unpacked, packed}
+use Rattle.packing.specs.Packed.{unpacked, packed}
 use Rattle.meaning.specs.Net.{Net}
 use Rattle.meaning.specs.Lengths.{Recorded}
 use Rattle.lists.specs.declared.Numbers.{Numbers}

@@ -4,7 +4,7 @@ use mathlib.Core.List.{List, _++_}
 use Prim.Native.Nat.{ℕ, _*_, _^_, _<_}
 use lib.ListN.{length, take, drop}
 use Rattle.words.specs.Tab.{over}
-use Rattle.words.specs.Packed.{packed, packedInto}
+use Rattle.packing.specs.Packed.{packed, packedInto}
 use Rattle.meaning.specs.Net.{Net}
 use Rattle.meaning.specs.Lengths.{Recorded}
 use Rattle.lists.specs.declared.Numbers.{Numbers}

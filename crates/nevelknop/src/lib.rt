@@ -5,10 +5,10 @@ ghost use Rattle.nevelknop.specs.Calls.{numbersOf, RunCall, WitnessCall}
 use checks::counts_check;
 use checks::numbers_of;
 use checks::refusal;
+use packing::unpack16;
 use running::run_lists;
 use walking::witness_lists;
 use words::Check;
-use words::packing::unpack16;
 
 mod checks;
 mod running;

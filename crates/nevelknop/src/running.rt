@@ -3,7 +3,7 @@ ghost use Prim.Native.Nat.{_^_, _<_};
 ghost use lib.ListN.{length};
 ghost use mathlib.Core.Path.{_≡_};
 ghost use Rattle.words.specs.declared.Check.the-variants.{Good};
-ghost use Rattle.words.specs.Packed.{packedInto};
+ghost use Rattle.packing.specs.Packed.{packedInto};
 ghost use Rattle.lists.specs.Lists.{net};
 ghost use Rattle.closure.specs.Runs.{runCheck, RunIs};
 ghost use Rattle.nevelknop.specs.Calls.{RunOn, runNumber};
@@ -13,12 +13,12 @@ use crate::checks::words_check;
 use closure::RunAnswer;
 use closure::run;
 use lists::Numbers;
+use packing::pack32;
+use packing::pack64;
+use packing::shorter;
+use packing::unpack32;
+use packing::unpack64;
 use words::Check;
-use words::packing::pack32;
-use words::packing::pack64;
-use words::packing::shorter;
-use words::packing::unpack32;
-use words::packing::unpack64;
 
 // The run on words, and the words packed into the bytes. A refused run has changed no word, so no byte changes.
 fn run_packed(

@@ -14,13 +14,13 @@ use crate::checks::words_check;
 use lists::Numbers;
 use lists::room;
 use meaning::cell;
+use packing::pack16;
+use packing::shorter;
+use packing::unpack32;
+use packing::unpack64;
 use witness::WitnessAnswer;
 use witness::window;
 use words::Check;
-use words::packing::pack16;
-use words::packing::shorter;
-use words::packing::unpack32;
-use words::packing::unpack64;
 
 fn length_of(numbers: Numbers, a: usize, i: usize, j: usize, lengths: &[u32]) -> u32
     requires { ⌜ Asked numbers a i j ⌝ }

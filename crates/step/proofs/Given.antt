@@ -1,8 +1,8 @@
--- Each refusal of a start and of a step 'given exactly when': all before it pass, and its own test fails. Assumes nothing.
+-- Each refusal of a step 'given exactly when': all before it pass, and its own test fails. Assumes nothing.
 use mathlib.Core.Path.{_≡_, sym}
 use mathlib.Core.List.{List, [], _∷_}
 use mathlib.Core.Logic.{_≢_, _↔_, Iff·rfl, Iff·and, Iff·trans}
-use mathlib.Core.Bool.{Bool, true, not}
+use mathlib.Core.Bool.{Bool, true}
 use Prim.Native.Nat.{ℕ, _/_, _<_}
 use native.Mathlib.Omega.{arith}
 use lib.ListN.{length, getD}
@@ -17,16 +17,7 @@ use Rattle.meaning.specs.Passes.{askOf}
 use Rattle.lists.specs.declared.Numbers.{Numbers}
 use Rattle.lists.specs.Lists.{cellsOf, listsCheck, roomCheck}
 use Rattle.lists.proofs.Given.{lists-other, room-given}
-use Rattle.step.specs.Calls.{startCheck, isPair, argumentCheck, usableCheck, heightCheck, callCheck, cellsCheck, stepCheck}
-
--- a start's only number of its own: "a lent buffer too short"
-pub start-10 : (numbers : Numbers) (rules edges : List ℕ) (have p : ℕ) → (startCheck numbers rules edges have ≡ refused 10 p)
-    ↔ ((listsCheck numbers rules edges ≡ Good) × ((have < cellsOf numbers) × (p ≡ 0)))
-unfolding startCheck
-start-10 numbers rules edges have p =
-    Iff·trans
-    (and-second (listsCheck numbers rules edges) _ 10 p (lists-other numbers rules edges 10 (omega arith)))
-    (Iff·and Iff·rfl (room-given 0 (cellsOf numbers) have p))
+use Rattle.step.specs.Calls.{isPair, argumentCheck, usableCheck, heightCheck, callCheck, cellsCheck, stepCheck}
 
 module _ (numbers : Numbers) (rules edges t : List ℕ) (r i k j : ℕ) where
   abbrev n : ℕ

@@ -1,8 +1,7 @@
--- The laws of one write and of the start's sequence of them; what the checks tell, and when each refusal is given;
--- that the promises settle; sequences of calls.
+-- The laws of one write of a step; what its checks tell, and when each refusal is given;
+-- that its promise settles; sequences of calls, from the start on.
 pub mod Entered
 pub mod Order
-pub mod Filling
 pub mod Given
 pub mod Settled
 pub mod Sequences

@@ -1,4 +1,4 @@
--- What the checks of a start and of a step tell, in their order; and the step from 11 on. Assumes nothing.
+-- What the checks of a step tell, in their order; and the step from 11 on. Assumes nothing.
 use mathlib.Core.Path.{_≡_, refl, sym, _∙_}
 use mathlib.Core.List.{List}
 use mathlib.Core.Logic.{_≢_, _↔_}
@@ -19,11 +19,12 @@ use Rattle.meaning.specs.Steps.{Step, targetOf, leftOf, rightOf, offer, step, w
 use Rattle.meaning.specs.Passes.{askOf}
 use Rattle.meaning.proofs.Steps.{step-keeps}
 use Rattle.lists.specs.declared.Numbers.{Numbers}
-use Rattle.lists.specs.Lists.{cellsOf}
-use Rattle.lists.proofs.Right.{RightLists, accepted, accepting, room-good}
+use Rattle.lists.proofs.Right.{accepted, accepting, room-good}
+use Rattle.start.specs.Entering.{enteredIn}
+use Rattle.start.proofs.Order.{Ready}
 use Rattle.step.specs.declared.StepAnswer.the-variants.{Refused}
-use Rattle.step.specs.Entering.{offered, enteredIn, answered, taken}
-use Rattle.step.specs.Calls.{startCheck, isPair, argumentCheck, usableCheck, heightCheck, callCheck, cellsCheck, cellsStep, stepCheck, stepOf}
+use Rattle.step.specs.Entering.{offered, answered, taken}
+use Rattle.step.specs.Calls.{isPair, argumentCheck, usableCheck, heightCheck, callCheck, cellsCheck, cellsStep, stepCheck, stepOf}
 use Rattle.step.proofs.Entered.{taken-no}
 
 -- ---- accepted calls
@@ -71,23 +72,9 @@ arguments-good n rules r i k j = (
 )
 
 module _ (numbers : Numbers) (rules edges : List ℕ) where
-  -- a start, or a step, on accepted lists and a table that is long enough
-  pub record Ready (have : ℕ) : Type 0 where
-    pub lists : RightLists numbers rules edges
-    pub room : cellsOf numbers ≤ have
-
-  pub start-good : (have : ℕ) → (startCheck numbers rules edges have ≡ Good) ↔ Ready have
-  unfolding startCheck
-  start-good have = (
-    λ e.
-        let a = and-good _ _ .0 e in
-        record { lists = accepted numbers rules edges (a .0); room = room-good _ _ _ .0 (a .1) },
-    λ h. and-good _ _ .1 (accepting numbers rules edges (h .lists), room-good _ _ _ .1 (h .room)),
-  )
-
   module _ (r i k j : ℕ) where
     pub call-good : (have : ℕ) → (callCheck numbers rules edges have r i k j ≡ Good)
-        ↔ (Ready have × Arguments (numbers .nodes) rules r i k j)
+        ↔ (Ready numbers rules edges have × Arguments (numbers .nodes) rules r i k j)
     unfolding callCheck
     call-good have = (
       λ e.

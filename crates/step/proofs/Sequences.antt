@@ -23,10 +23,12 @@ use Rattle.meaning.proofs.PassOf.{ask-possible}
 use Rattle.lists.specs.declared.Numbers.{Numbers}
 use Rattle.lists.specs.Lists.{net}
 use Rattle.lists.proofs.Right.{RightLists, sane}
+use Rattle.start.specs.Calls.{StartCall}
+use Rattle.start.proofs.Order.{start-good}
 use Rattle.step.specs.declared.StepAnswer.{StepAnswer}
 use Rattle.step.specs.Entering.{answered}
-use Rattle.step.specs.Calls.{usableCheck, heightCheck, cellsCheck, stepCheck, stepOf, Accepts, Ask, asked, Calls, none, call, StartCall}
-use Rattle.step.proofs.Order.{Arguments, start-good, call-good}
+use Rattle.step.specs.Calls.{usableCheck, heightCheck, cellsCheck, stepCheck, stepOf, Accepts, Ask, asked, Calls, none, call}
+use Rattle.step.proofs.Order.{Arguments, call-good}
 
 -- an answer that accepts comes of a good check, and leaves the table after the step
 by-check : (c : Check) (w : Bool) (t t′ u : List ℕ) (a : StepAnswer) → Accepts a → (a, u) ≡ answered c w t t′ → (c ≡ Good) × (u ≡ t′)

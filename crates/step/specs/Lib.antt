@@ -1,3 +1,3 @@
--- The public start and step, and the order in which the start enters its keys.
+-- The public step, and what it enters.
 pub mod Entering
 pub mod Calls

@@ -1,21 +1,21 @@
-// The start of a table, and the single step: the two calls that demand 3 speaks of.
-// Every function is total; what each does to the table is one equation, or for the start document 01's own words.
+// The single step, the second of the two calls that demand 3 speaks of (crate start has the first).
+// Every function is total; what each does to the table is one equation.
 ghost use mathlib.Core.Path.{_≡_};
-ghost use Prim.Native.Nat.{_/_, max};
+ghost use Prim.Native.Nat.{_/_};
 ghost use lib.ListN.{length, getD};
-ghost use Rattle.key.specs.Keys.{heightOf};
 ghost use Rattle.meaning.specs.Net.{word as wordOf};
 ghost use Rattle.meaning.specs.Table.{cell as cellOf};
 ghost use Rattle.meaning.specs.Steps.{usable as usableOf};
 ghost use Rattle.meaning.specs.Passes.{askOf};
-ghost use Rattle.step.specs.Entering.{offered, entered, taken, cleared, leafIn, ruleIn, rulesIn};
-ghost use Rattle.step.specs.Calls.{startCheck, StartCall, isPair, argumentCheck, callCheck, usableCheck, cellsStep, stepOf};
+ghost use Rattle.step.specs.Entering.{offered, taken};
+ghost use Rattle.step.specs.Calls.{isPair, argumentCheck, callCheck, usableCheck, cellsStep, stepOf};
 use key::Key;
 use lists::Numbers;
 use lists::cells;
 use lists::check;
 use lists::room;
 use meaning::cell;
+use meaning::pair_height;
 use meaning::word;
 use words::Check;
 use words::Refusal;
@@ -38,20 +38,6 @@ fn read(table: &[u64], c: usize) -> u64
     0
 }
 
-// Writes a key into word c if it is smaller than what stands there, and says whether it did.
-fn enter(table: &mut [u64], c: usize, key: u64) -> bool
-    ensures { λ r. ⌜ (r, now (table .exit)) ≡ entered (now (table .entry)) c key ⌝ }
-{
-    if table.len() <= c {
-        return false;
-    }
-    if table[c] <= key {
-        return false;
-    }
-    table[c] = key;
-    true
-}
-
 // The key that the words of two sides offer, or EMPTY.
 fn candidate(x: u64, y: u64, k: u16, r: u16) -> u64
     ensures { λ v. ⌜ v ≡ offered x y k r ⌝ }
@@ -62,29 +48,14 @@ fn candidate(x: u64, y: u64, k: u16, r: u16) -> u64
     if y == Key::EMPTY {
         return Key::EMPTY;
     }
-    let h = larger(height(x), height(y));
-    if h == 4294967295 {
+    let left = Key { word: x }.split();
+    let right = Key { word: y }.split();
+    let h = pair_height(left.height, right.height);
+    if 4294967295 < h {
         return Key::EMPTY;
     }
-    let key = Key::make(h + 1, k, r);
+    let key = Key::make(h as u32, k, r);
     key.word
-}
-
-fn height(word: u64) -> u32
-    ensures { λ h. ⌜ h ≡ heightOf word ⌝ }
-{
-    let key = Key { word: word };
-    let parts = key.split();
-    parts.height
-}
-
-fn larger(a: u32, b: u32) -> u32
-    ensures { λ h. ⌜ h ≡ max a b ⌝ }
-{
-    if a < b {
-        return b;
-    }
-    a
 }
 
 // Enters a key in word c; 12 where it would win and is over 131,072 high.
@@ -94,99 +65,15 @@ fn take(table: &mut [u64], c: usize, key: u64) -> StepAnswer
     if read(table, c) <= key {
         return StepAnswer::Unchanged;
     }
-    if 131072 < height(key) {
+    let made = Key { word: key }.split();
+    if 131072 < made.height {
         return StepAnswer::Refused(Refusal {
             number: 12,
             place: c,
         });
     }
-    enter(table, c, key);
+    table[c] = key;
     StepAnswer::Changed
-}
-
-// Empties the first n words.
-pub fn clear(table: &mut [u64], n: usize)
-    ensures { λ _. ⌜ now (table .exit) ≡ cleared n (now (table .entry)) ⌝ }
-{
-    let mut end = table.len();
-    if n < end {
-        end = n;
-    }
-    let mut c = 0;
-    while c < end {
-        table[c] = Key::EMPTY;
-        c += 1;
-    }
-}
-
-// Enters edge e for rule r, head → label, if it has that label.
-fn fill_edge(nodes: u16, edges: &[u16], head: u16, label: u16, r: u16, table: &mut [u64], e: usize)
-    ensures { λ _. ⌜ now (table .exit) ≡ leafIn nodes (now (edges .entry)) head label r (now (table .entry)) e ⌝ }
-{
-    if word(edges, e, 1) != label {
-        return;
-    }
-    let i = word(edges, e, 0);
-    let j = word(edges, e, 2);
-    let key = Key::make(1, i, r);
-    enter(table, cell(nodes, head, i, j), key.word);
-}
-
-// Enters every edge for rule r, if that is a label rule.
-fn fill_rule(nodes: u16, rules: &[u16], edges: &[u16], table: &mut [u64], r: u16)
-    ensures { λ _. ⌜ now (table .exit) ≡ ruleIn nodes (now (rules .entry)) (now (edges .entry)) (now (table .entry)) r ⌝ }
-{
-    if word(rules, r as usize, 2) != 65535 {
-        return;
-    }
-    let head = word(rules, r as usize, 0);
-    let label = word(rules, r as usize, 1);
-    let n = edges.len() / 3;
-    let mut e = 0;
-    while e < n {
-        fill_edge(nodes, edges, head, label, r, table, e);
-        e += 1;
-    }
-}
-
-// Enters the first n rules.
-fn fill(nodes: u16, rules: &[u16], edges: &[u16], table: &mut [u64], n: u16)
-    ensures { λ _. ⌜ now (table .exit) ≡ rulesIn nodes (now (rules .entry)) (now (edges .entry)) (now (table .entry)) n ⌝ }
-{
-    let mut r = 0;
-    while r < n {
-        fill_rule(nodes, rules, edges, table, r);
-        r += 1;
-    }
-}
-
-// 5, 4, 7, 8, then 10 for a table of `have` words.
-fn start_check(numbers: Numbers, rules: &[u16], edges: &[u16], have: usize) -> Check
-    ensures { λ c. ⌜ c ≡ startCheck numbers (now (rules .entry)) (now (edges .entry)) have ⌝ }
-{
-    let c = check(numbers, rules, edges);
-    if let Check::Bad(_) = c {
-        return c;
-    }
-    room(
-        0,
-        cells(numbers.nodes as u16, numbers.nonterminals as u16),
-        have,
-    )
-}
-
-// Fills the height 1 cells and empties the others.
-pub fn start(numbers: Numbers, rules: &[u16], edges: &[u16], table: &mut [u64]) -> Check
-    ensures { λ c. ⌜ StartCall numbers (now (rules .entry)) (now (edges .entry)) (now (table .entry)) c (now (table .exit)) ⌝ }
-{
-    let c = start_check(numbers, rules, edges, table.len());
-    if let Check::Bad(_) = c {
-        return c;
-    }
-    let nodes = numbers.nodes as u16;
-    clear(table, cells(nodes, numbers.nonterminals as u16));
-    fill(nodes, rules, edges, table, (rules.len() / 3) as u16);
-    c
 }
 
 // Whether a cell may hold v, of so many nodes and rules.

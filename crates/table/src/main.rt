@@ -1,9 +1,7 @@
 // The whole closed table of a deck of any size: what large comparisons run on. It reads a deck on standard input, refuses as
 // the reader does, and else writes a line `A i j height middle rule length` for every filled cell, by cell number, and then
 // `cells N depth D`; and `rows differ` where the second engine's answer is another.
-ghost use mathlib.Core.Path.{_≡_};
 ghost use Prim.Native.Nat.{_<_, _≤_};
-ghost use lib.ListN.{length};
 use closure::RunAnswer;
 use closure::run;
 use deck::ReadAnswer;
@@ -137,25 +135,12 @@ fn closed(numbers: Numbers, rules: &[u16], edges: &[u16])
     }
 }
 
-// Room for the rules and the edges of any deck.
-fn rule_words() -> [u16; 768]
-    ensures { λ r. ⌜ 768 ≡ length r ⌝ }
-{
-    [0; 768]
-}
-
-fn edge_words() -> [u16; 12288]
-    ensures { λ r. ⌜ 12288 ≡ length r ⌝ }
-{
-    [0; 12288]
-}
-
 fn main() {
     // One byte more than the longest deck, so that a longer input is refused.
     let mut deck = [0u8; 29697];
     let n = io::read_full(0, &mut deck);
-    let mut rules = rule_words();
-    let mut edges = edge_words();
+    let mut rules: [u16; 768] = [0; 768];
+    let mut edges: [u16; 12288] = [0; 12288];
     let answer = read(&deck[..n], &mut rules, &mut edges);
     match answer {
         ReadAnswer::Read(h) => {

@@ -25,6 +25,18 @@ pub cell-behind : (n A c : ℕ) → cell n A (c / n) (c % n) ≡ cell n A 0 0 + 
 unfolding cell
 cell-behind n A c = omega (arith, add-mul (A * n) (c / n) n, div-add-mod' c n, add-mul (A * n) 0 n)
 
+-- where the pieces of a line stand
+module _ {from : ℕ} (low : from < 4611686018427380000) where
+  pub head-room : from < 9223372036854770000
+  head-room = omega arith
+
+  module _ {head : ℕ} (h : head ≤ from + 120) where
+    pub tail-room : head < 4611686018427387904
+    tail-room = omega arith
+
+    pub line-room : {tail : ℕ} → tail ≤ head + 6144 → tail + 1 < 9223372036854775808
+    line-room t = omega arith
+
 -- it is filled if it is not empty
 pub behind-filled : (n A c first : ℕ) (t : List ℕ) → first ≡ cell n A 0 0 → (getD t (first + c) 0 ≡ EMPTY → ⊥)
     → getD t (first + c) 0 < 18446744073709551616 → getD t (cell n A 0 0 + c) 0 < EMPTY
@@ -34,17 +46,32 @@ module _ {numbers : Numbers} {rules edges t ls : List ℕ} {A : ℕ} (ready : Re
   -- a cell of the table and of the lengths
   pub record CellIn (c : ℕ) : Type 0 where
     pub few : c < 131072
+    pub four : c * 4 < 18446744073709551616
+    pub eight : c * 8 < 18446744073709551616
     pub table : c < length t
     pub lengths : c < length ls
 
   pub ready-cell : {i j : ℕ} → i < numbers .nodes → j < numbers .nodes → CellIn (cell (numbers .nodes) A i j)
   ready-cell {i} {j} hi hj =
       let l = cell-in (numbers .nodes) (numbers .nonterminals) A i j (ready .head) hi hj in
+      let few = few-cells numbers rules edges (accepted numbers rules edges (ready .lists)) in
       record {
-        few = omega (arith, few-cells numbers rules edges (accepted numbers rules edges (ready .lists)));
+        few = omega arith;
+        four = omega arith;
+        eight = omega arith;
         table = omega (arith, ready .final .long);
         lengths = omega (arith, ready .lengths .long);
       }
+
+  pub ready-at : {c i j : ℕ} → i < numbers .nodes → j < numbers .nodes → c ≡ cell (numbers .nodes) A i j → CellIn c
+  ready-at hi hj e = rw e (ready-cell hi hj)
+
+  -- what is cast to 16 bits
+  pub ready-nodes : numbers .nodes < 65536
+  ready-nodes = omega (arith, ready .nodes)
+
+  pub ready-head : A < 65536
+  ready-head = omega (arith, ready .head, accepted numbers rules edges (ready .lists) .nonterminals .high)
 
   pub ready-behind : (c : ℕ) → c < numbers .nodes * numbers .nodes → CellIn (cell (numbers .nodes) A 0 0 + c)
   ready-behind c h =

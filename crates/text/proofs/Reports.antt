@@ -5,33 +5,26 @@ use Prim.Native.Nat.{ℕ, _+_, _*_, _≤_, _<_}
 use native.Mathlib.Nat.{mul-le-mul}
 use native.Mathlib.Omega.{arith}
 use lib.ListN.{length, take, drop, length-drop}
-use lib.Seq.{take-at}
-use borrow.Author.Tests.{le-leb, leb-true, ltb-true}
+use borrow.Author.Tests.{le-leb, leb-true}
 use Rattle.words.specs.declared.Refusal.{Refusal}
 use Rattle.words.specs.declared.Check.{Check}
 use Rattle.words.specs.declared.Check.the-variants.{Good, Bad}
-use Rattle.words.specs.Refusals.{_andThen_}
-use Rattle.words.specs.Tab.{over}
-use Rattle.words.proofs.Tab.{length-over}
 use Rattle.words.proofs.Refusals.{must-good, and-good, and-next, and-stop}
-use Rattle.meaning.specs.Table.{cells}
 use Rattle.meaning.specs.Lengths.{depth}
 use Rattle.lists.specs.declared.Numbers.{Numbers}
 use Rattle.lists.specs.Lists.{net, cellsOf, listsCheck, roomCheck}
 use Rattle.lists.proofs.Right.{accepted as right-lists, sane}
 use Rattle.deck.specs.declared.Header.{Header}
 use Rattle.deck.specs.declared.ReadAnswer.{ReadAnswer}
-use Rattle.deck.specs.declared.ReadAnswer.the-variants.{Read, Refused}
-use Rattle.deck.specs.Blocks.{wordAt}
-use Rattle.deck.specs.Reads.{headerOf, headerCheck, deckCheck, readCheck, rulesOf, edgesOf, answered, written}
-use Rattle.deck.proofs.Handed.{right-deck, limited, accepted}
-use Rattle.deck.proofs.Lists.{length-rules, length-edges, accepted-lists}
+use Rattle.deck.specs.declared.ReadAnswer.the-variants.{Refused}
+use Rattle.deck.specs.Reads.{numbersIn, readCheck, answered}
+use Rattle.deck.proofs.Leaves.{ReadIs, read-bad, read-deck}
 use Rattle.closure.specs.Runs.{runCheck, Closed, Stopped}
 use Rattle.closure.specs.declared.RunAnswer.{RunAnswer}
 use Rattle.closure.proofs.Settled.{never-12}
 use Rattle.text.specs.declared.Count.{Count}
 use Rattle.text.specs.Text.{openingLine, closingLine, refusedLine}
-use Rattle.text.specs.Report.{sizeCheck, reportCheck, numbersIn, netIn, Whole, Reported, Report}
+use Rattle.text.specs.Report.{sizeCheck, reportCheck, netIn, Whole, Reported, Report}
 use Rattle.text.specs.Pen.{Penned, Ready, Small, Exact, LinesPenned, TextPenned}
 use Rattle.text.proofs.Pens.{penned-more}
 use Rattle.text.proofs.Lined.{ready-few}
@@ -39,81 +32,21 @@ use Rattle.text.proofs.Lined.{ready-few}
 -- ---- what the reader hands on
 
 module _ (d : List ℕ) where
-  -- the report's two lists have room for every deck
-  pub read-deck : readCheck d 768 12288 ≡ deckCheck d
-  unfolding readCheck roomCheck
-  read-deck = go (deckCheck d) refl
-    where
-      go : (c : Check) → deckCheck d ≡ c → readCheck d 768 12288 ≡ deckCheck d
-      go Good e =
-          let l = limited d (right-deck d e .header) in
-          let rules : 3 * wordAt d 0 4 ≤ 768 = omega (arith, l .rules .high) in
-          let edges : 3 * wordAt d 0 5 ≤ 12288 = omega (arith, l .edges .high) in
-          and-next e ∙ and-good _ _ .1 (must-good _ 10 3 .1 (le-leb _ _ rules), must-good _ 10 4 .1 (le-leb _ _ edges)) ∙ sym e
-      go (Bad r) e = and-stop _ e ∙ sym e
-
-  -- an accepted deck: its header and its lists
-  pub record ReadIs (h : Header) (rules edges : List ℕ) : Type 0 where
-    pub check : deckCheck d ≡ Good
-    pub header : h ≡ headerOf d
-    pub rules-fit : 3 * h .rules ≤ 768
-    pub edges-fit : 3 * h .edges ≤ 12288
-    pub rules-long : length rules ≡ 768
-    pub edges-long : length edges ≡ 12288
-    pub rules-are : take (3 * h .rules) rules ≡ rulesOf d
-    pub edges-are : take (3 * h .edges) edges ≡ edgesOf d
-    pub lists : listsCheck (numbersIn h) (rulesOf d) (edgesOf d) ≡ Good
-    pub query : h .query < h .nonterminals
-
-  query-in : headerCheck d ≡ Good → headerOf d .query < headerOf d .nonterminals
-  unfolding headerCheck
-  query-in e = ltb-true _ _ (must-good _ 4 6 .0 (and-good _ _ .0 e .1))
-
-  -- the front of a list that is written
-  front : (w l : List ℕ) (n : ℕ) → length w ≡ n → take n (over w l) ≡ w
-  unfolding over
-  front w l n e = take-at w _ n e
-
-  read-good : (c : Check) {h : Header} → answered c d ≡ Read h → (c ≡ Good) × (h ≡ headerOf d)
-  read-good Good e = (refl, cc)
-  read-good (Bad r) {h} e = let z : _≡_ {A = ℕ} 0 1 = cc in absurd (omega arith)
-
-  read-bad : (c : Check) {r : Refusal} → answered c d ≡ Refused r → c ≡ Bad r
-  read-bad Good {r} e = let z : _≡_ {A = ℕ} 0 1 = cc in absurd (omega arith)
-  read-bad (Bad s) e = ap Bad cc
-
-  module _ (rs es : List ℕ) {a : ReadAnswer} (room-rules : length rs ≡ 768) (room-edges : length es ≡ 12288)
-      (answer : a ≡ answered (readCheck d (length rs) (length es)) d) where
-    pub read-refused : {r : Refusal} → a ≡ Refused r → reportCheck d ≡ Bad r
-    unfolding reportCheck
-    read-refused e =
-        let b = read-bad (readCheck d (length rs) (length es)) (sym answer ∙ e) in
-        and-stop _ (sym read-deck ∙ (rw (room-rules, room-edges) at b))
-
-    pub read-is : {h : Header} {rs′ es′ : List ℕ} → rs′ ≡ written (readCheck d (length rs) (length es)) (rulesOf d) rs
-        → es′ ≡ written (readCheck d (length rs) (length es)) (edgesOf d) es → a ≡ Read h → ReadIs h rs′ es′
-    read-is {h} r s e =
-        let g = read-good (readCheck d (length rs) (length es)) (sym answer ∙ e) in
-        let q = rw (room-rules, room-edges) at (g .0) in
-        let k = sym read-deck ∙ q in
-        let x = rw (g .0) at r in
-        let y = rw (g .0) at s in
-        let f = accepted d 768 12288 q in
-        rw (g .1, x, y) (record {
-          check = k;
-          header = refl;
-          rules-fit = f .rules-fit;
-          edges-fit = f .edges-fit;
-          rules-long = length-over (rulesOf d) rs (omega (arith, f .rules-fit, length-rules d)) ∙ room-rules;
-          edges-long = length-over (edgesOf d) es (omega (arith, f .edges-fit, length-edges d)) ∙ room-edges;
-          rules-are = front (rulesOf d) rs _ (length-rules d);
-          edges-are = front (edgesOf d) es _ (length-edges d);
-          lists = accepted-lists d 768 12288 q;
-          query = query-in (right-deck d k .header);
-        })
+  -- the report's two lists have room for every deck, so that what the reader refuses is refused from 1 to 9
+  pub read-refused :
+      (rs es : List ℕ) {a : ReadAnswer} {r : Refusal} →
+      length rs ≡ 768 →
+      length es ≡ 12288 →
+      a ≡ answered (readCheck d (length rs) (length es)) d →
+      a ≡ Refused r →
+      reportCheck d ≡ Bad r
+  unfolding reportCheck
+  read-refused rs es n m answer e =
+      let b = read-bad d (readCheck d (length rs) (length es)) (sym answer ∙ e) in
+      and-stop _ (sym (read-deck d) ∙ (rw (n, m) at b))
 
   -- 13, or the report
-  pub read-report : {h : Header} {rules edges l l′ : List ℕ} {r : ℕ} → ReadIs h rules edges
+  pub read-report : {h : Header} {rules edges l l′ : List ℕ} {r : ℕ} → ReadIs d h rules edges
       → TextPenned (Reported (sizeCheck h) h (take (3 * h .rules) rules) (take (3 * h .edges) edges)) l l′ r → TextPenned (Report d) l l′ r
   unfolding reportCheck
   read-report s x = rw (and-next (s .check)) (rw (s .rules-are, s .edges-are, s .header) at x)

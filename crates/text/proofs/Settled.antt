@@ -1,7 +1,7 @@
 -- Two reports of a deck are one text, and the report's promise settles its answer and every byte. Assumes nothing.
 use mathlib.Core.Path.{_≡_, refl, sym, ap, _∙_}
-use mathlib.Core.List.{List, _++_}
-use Prim.Native.Nat.{ℕ, _*_, _/_, _%_, _≤_, _<_}
+use mathlib.Core.List.{List}
+use Prim.Native.Nat.{ℕ, _*_, _/_, _%_, _<_}
 use native.Mathlib.Omega.{arith}
 use lib.ListN.{length, drop}
 use lib.Seq.{drop-length}
@@ -12,7 +12,6 @@ use Rattle.words.proofs.Refusals.{and-good}
 use Rattle.meaning.specs.Net.{Net, Sane}
 use Rattle.meaning.specs.Trees.{Reached}
 use Rattle.meaning.specs.Table.{cells}
-use Rattle.meaning.specs.Lengths.{depth}
 use Rattle.meaning.proofs.Fronts.{tables-same}
 use Rattle.meaning.proofs.Demand2.{final-tables}
 use Rattle.meaning.proofs.Right.{final-falling}
@@ -21,12 +20,11 @@ use Rattle.lists.proofs.Right.{accepted, sane}
 use Rattle.deck.specs.declared.Header.{Header}
 use Rattle.deck.specs.Reads.{headerOf, deckCheck, rulesOf, edgesOf}
 use Rattle.deck.proofs.Lists.{accepted-lists}
+use Rattle.deck.proofs.Leaves.{read-deck}
 use Rattle.text.specs.declared.ReportAnswer.{ReportAnswer}
 use Rattle.text.specs.declared.ReportAnswer.the-variants.{Wrote, Short}
-use Rattle.text.specs.Text.{openingLine, closingLine}
 use Rattle.text.specs.Report.{reportCheck, netIn, Whole, Reported, Report, ReportIs}
 use Rattle.text.proofs.Counted.{Counted, lines-one, pairs-reached}
-use Rattle.text.proofs.Reports.{read-deck}
 
 -- two lists of exactly n words have no rest
 no-rest : (n : ℕ) (s t : List ℕ) → length s ≡ n → length t ≡ n → drop n s ≡ drop n t

@@ -2,7 +2,7 @@
 use mathlib.Core.Path.{_≡_, sym, ap, _∙_}
 use mathlib.Core.List.{List}
 use mathlib.Core.Logic.{⊎-elim}
-use Prim.Native.Nat.{ℕ, _≤_}
+use Prim.Native.Nat.{ℕ, _+_, _*_, _≤_, _<_}
 use native.Mathlib.Omega.{arith}
 use lib.ListN.{length, take, drop}
 use lib.Seq.{take-at}
@@ -11,6 +11,7 @@ use Rattle.words.specs.declared.Check.the-variants.{Bad}
 use Rattle.words.specs.Tab.{over}
 use Rattle.words.proofs.Tab.{length-over}
 use Rattle.words.proofs.Refusals.{good-bad}
+use Rattle.meaning.specs.Table.{at}
 use Rattle.meaning.proofs.Recorded.{recorded-length}
 use Rattle.lists.specs.declared.Numbers.{Numbers}
 use Rattle.lists.specs.Lists.{net}
@@ -20,19 +21,26 @@ use Rattle.witness.specs.declared.WitnessAnswer.{WitnessAnswer}
 use Rattle.witness.specs.declared.WitnessAnswer.the-variants.{Wrote, Refused}
 use Rattle.witness.proofs.Exact.{witness-good}
 use Rattle.witness.proofs.Worth.{run-witness}
-use Rattle.text.specs.Text.{ascii, pathText}
+use Rattle.text.specs.Text.{pathText}
 use Rattle.text.specs.Pairs.{Tail}
 use Rattle.text.specs.Pen.{Ready, FilledAt}
+
+-- where a path's text ends, and `long`
+pub path-room : (from words : ℕ) {to : ℕ} → to ≤ from + 6 * words → words ≤ 1024 → to ≤ from + 6144
+path-room from words h l = omega arith
+
+pub letters-room : {from : ℕ} → from < 4611686018427387904 → from + 5 < 9223372036854775808
+letters-room h = omega arith
 
 module _ (numbers : Numbers) (rules edges t ls : List ℕ) (A i j : ℕ) where
   -- a written path is the whole recorded one
   pub record Shown (exit : List ℕ) (n : ℕ) : Type 0 where
-    pub few : n ≤ 1024
-    pub long : length exit ≡ 1024
+    pub fits : n ≤ length exit
     pub count : length (take n exit) ≡ n
+    pub few : length (take n exit) ≤ 1024
     pub tail : Tail (net numbers rules edges) t ls A i j (pathText (take n exit))
 
-  pub tail-shown : {entry exit : List ℕ} {n : ℕ} {r : WitnessAnswer} → length entry ≡ 1024 → r ≡ Wrote n
+  pub tail-shown : {entry exit : List ℕ} {n : ℕ} {r : WitnessAnswer} → length entry ≤ 1024 → r ≡ Wrote n
       → Witnessed numbers rules edges A i j t ls entry exit r → Shown exit n
   unfolding over
   tail-shown {entry} {exit} {n} room e w = go (rw e at w)
@@ -44,20 +52,20 @@ module _ (numbers : Numbers) (rules edges t ls : List ℕ) (A i j : ℕ) where
           let few : length p ≤ length entry = omega (arith, h .3) in
           let same : take n exit ≡ p = rw words (take-at p (drop (length p) entry) n (sym count)) in
           record {
-            few = omega (arith, count);
-            long = ap length words ∙ length-over p entry few ∙ room;
+            fits = omega (arith, count, ap length words ∙ length-over p entry few);
             count = ap length same ∙ sym count;
+            few = omega (arith, ap length same);
             tail = rw same (Tail.shown (omega (arith, h .3)) way);
           }
 
-  -- a refused one is too long
-  pub tail-long : {entry exit : List ℕ} {s : WitnessAnswer} {r : Refusal} → length entry ≡ 1024 → s ≡ Refused r → Ready numbers rules edges t ls A → FilledAt (numbers .nodes) t A i j
-      → Witnessed numbers rules edges A i j t ls entry exit s → Tail (net numbers rules edges) t ls A i j (ascii " long")
-  tail-long {entry} {exit} {r = r} room e ready at w =
+  -- a refused one has no room
+  pub tail-long : {entry exit : List ℕ} {s : WitnessAnswer} {r : Refusal} → length entry ≤ 1024 → s ≡ Refused r → Ready numbers rules edges t ls A → FilledAt (numbers .nodes) t A i j
+      → Witnessed numbers rules edges A i j t ls entry exit s → length entry < at (numbers .nodes) ls A i j
+  tail-long {entry} {exit} {r = r} room e ready cell w =
       ⊎-elim
       (λ good. absurd (good-bad (sym good ∙ bad (rw e at w))))
-      (λ none. Tail.long (⊎-elim (λ l. omega arith) (λ l. omega arith) (none .1)))
-      (run-witness numbers rules edges t ls A i j (ready .lists) (ready .final) (ready .lengths) (ready .head) (at .from) (at .to) (at .filled) (length entry))
+      (λ none. ⊎-elim (λ l. omega arith) (λ l. omega arith) (none .1))
+      (run-witness numbers rules edges t ls A i j (ready .lists) (ready .final) (ready .lengths) (ready .head) (cell .from) (cell .to) (cell .filled) (length entry))
     where
       bad : Witnessed numbers rules edges A i j t ls entry exit (Refused r) → witnessCheck numbers rules edges A i j t ls (length entry) ≡ Bad r
       bad (Answered.refused b same) = b

@@ -13,8 +13,9 @@ use Rattle.meaning.specs.Lengths.{Lengths}
 use Rattle.lists.specs.declared.Numbers.{Numbers}
 use Rattle.lists.specs.Lists.{net, cellsOf, listsCheck}
 use Rattle.deck.specs.declared.Header.{Header}
+use Rattle.deck.specs.Reads.{numbersIn}
 use Rattle.text.specs.Pairs.{Tail, pairLine, Lines}
-use Rattle.text.specs.Report.{ROOM, numbersIn}
+use Rattle.text.specs.Report.{ROOM}
 use Rattle.text.specs.declared.Count.{Count}
 
 -- from position `from` the pen has written w into l, which is now l′, and stands at `to`; what does not fit is dropped

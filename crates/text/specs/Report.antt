@@ -12,10 +12,9 @@ use Rattle.meaning.specs.Net.{Net}
 use Rattle.meaning.specs.Table.{cells}
 use Rattle.meaning.specs.Final.{FinalTable}
 use Rattle.meaning.specs.Lengths.{Lengths, depth}
-use Rattle.lists.specs.declared.Numbers.{Numbers}
 use Rattle.lists.specs.Lists.{net}
 use Rattle.deck.specs.declared.Header.{Header}
-use Rattle.deck.specs.Reads.{headerOf, deckCheck, rulesOf, edgesOf}
+use Rattle.deck.specs.Reads.{headerOf, numbersIn, deckCheck, rulesOf, edgesOf}
 use Rattle.text.specs.Text.{openingLine, closingLine, refusedLine}
 use Rattle.text.specs.Pairs.{Lines}
 use Rattle.text.specs.declared.ReportAnswer.{ReportAnswer}
@@ -29,10 +28,6 @@ sizeCheck h =
 -- "For refusals 1 to 9 and 13 (after 9) it writes `refused N at P`."
 unfoldable pub reportCheck : List ℕ → Check
 reportCheck d = deckCheck d andThen sizeCheck (headerOf d)
-
--- the first three header numbers
-abbrev pub numbersIn : Header → Numbers
-numbersIn h = record { nodes = h .nodes; nonterminals = h .nonterminals; labels = h .labels }
 
 -- the grammar and the graph that a header and the reader's two lists give
 abbrev pub netIn : Header → List ℕ → List ℕ → Net

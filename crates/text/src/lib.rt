@@ -1,11 +1,11 @@
 // The report's text, to the byte, as one call: it reads a deck, closes its table and writes the report into a lent text.
 ghost use mathlib.Core.Path.{_≡_};
 ghost use Prim.Native.Nat.{_<_};
-ghost use lib.ListN.{length};
 ghost use Rattle.words.specs.declared.Check.the-variants.{Good};
 ghost use Rattle.meaning.specs.Lengths.{depth as depthOf};
 ghost use Rattle.lists.specs.Lists.{cellsOf, listsCheck};
-ghost use Rattle.text.specs.Report.{sizeCheck, numbersIn, Whole, Reported, Report, ReportIs};
+ghost use Rattle.deck.specs.Reads.{numbersIn};
+ghost use Rattle.text.specs.Report.{sizeCheck, Whole, Reported, Report, ReportIs};
 ghost use Rattle.text.specs.Pen.{Ready, Small, Exact, TextPenned};
 use closure::RunAnswer;
 use closure::run;
@@ -135,24 +135,12 @@ fn sized(text: &mut [u8], h: Header, rules: &[u16], edges: &[u16]) -> usize
     }
 }
 
-// Room for the rules and the edges of any deck.
-fn rule_words() -> [u16; 768]
-    ensures { λ r. ⌜ 768 ≡ length r ⌝ }
-{
-    [0; 768]
-}
-
-fn edge_words() -> [u16; 12288]
-    ensures { λ r. ⌜ 12288 ≡ length r ⌝ }
-{
-    [0; 12288]
-}
-
 fn written(text: &mut [u8], deck: &[u8]) -> usize
     ensures { λ r. ⌜ TextPenned (Report (now (deck .entry))) (now (text .entry)) (now (text .exit)) r ⌝ }
 {
-    let mut rules = rule_words();
-    let mut edges = edge_words();
+    // Room for the rules and the edges of any deck.
+    let mut rules: [u16; 768] = [0; 768];
+    let mut edges: [u16; 12288] = [0; 12288];
     let answer = read(deck, &mut rules, &mut edges);
     match answer {
         ReadAnswer::Read(h) => {

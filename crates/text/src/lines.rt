@@ -18,6 +18,17 @@ fn labelled(text: &mut [u8], at: usize, s: &[u8], x: u64) -> usize
     number(text, to, x)
 }
 
+// Two numbers, with a text before, between and behind them.
+fn row(text: &mut [u8], at: usize, s: &[u8], x: u64, t: &[u8], y: u64, u: &[u8]) -> usize
+    requires { ⌜ at + (length (now s) + length (now t) + length (now u) + 40) < 9223372036854775808 ⌝ }
+    ensures { λ r. ⌜ Penned (now (text .entry)) (now (text .exit)) at r (now (s .entry) ++ decimal x ++ (now (t .entry) ++ decimal y) ++ now (u .entry)) ⌝ }
+    ensures { λ r. ⌜ r ≤ at + (length (now (s .entry)) + length (now (t .entry)) + length (now (u .entry)) + 40) ⌝ }
+{
+    let to = labelled(text, at, s, x);
+    let to = labelled(text, to, t, y);
+    letters(text, to, u)
+}
+
 pub fn opening(
     text: &mut [u8],
     at: usize,
@@ -30,11 +41,16 @@ pub fn opening(
     ensures { λ r. ⌜ Penned (now (text .entry)) (now (text .exit)) at r (openingLine nodes edges nonterminals rules) ⌝ }
     ensures { λ r. ⌜ r ≤ at + 200 ⌝ }
 {
-    let to = labelled(text, at, b"graph ", nodes);
-    let to = labelled(text, to, b" nodes ", edges);
-    let to = labelled(text, to, b" edges ", nonterminals);
-    let to = labelled(text, to, b" nonterminals ", rules);
-    letters(text, to, b" rules\n")
+    let to = row(text, at, b"graph ", nodes, b" nodes ", edges, b" edges");
+    row(
+        text,
+        to,
+        b" ",
+        nonterminals,
+        b" nonterminals ",
+        rules,
+        b" rules\n",
+    )
 }
 
 pub fn closing(text: &mut [u8], at: usize, pairs: u64, depth: u64) -> usize
@@ -42,9 +58,7 @@ pub fn closing(text: &mut [u8], at: usize, pairs: u64, depth: u64) -> usize
     ensures { λ r. ⌜ Penned (now (text .entry)) (now (text .exit)) at r (closingLine pairs depth) ⌝ }
     ensures { λ r. ⌜ r ≤ at + 200 ⌝ }
 {
-    let to = labelled(text, at, b"pairs ", pairs);
-    let to = labelled(text, to, b" depth ", depth);
-    letters(text, to, b"\n")
+    row(text, at, b"pairs ", pairs, b" depth ", depth, b"\n")
 }
 
 pub fn refused(text: &mut [u8], at: usize, refusal: u64, place: u64) -> usize
@@ -52,9 +66,7 @@ pub fn refused(text: &mut [u8], at: usize, refusal: u64, place: u64) -> usize
     ensures { λ r. ⌜ Penned (now (text .entry)) (now (text .exit)) at r (refusedLine refusal place) ⌝ }
     ensures { λ r. ⌜ r ≤ at + 200 ⌝ }
 {
-    let to = labelled(text, at, b"refused ", refusal);
-    let to = labelled(text, to, b" at ", place);
-    letters(text, to, b"\n")
+    row(text, at, b"refused ", refusal, b" at ", place, b"\n")
 }
 
 fn edge(text: &mut [u8], at: usize, e: u16) -> usize
@@ -95,9 +107,6 @@ pub fn pair(
     ensures { λ r. ⌜ r ≤ at + 120 ⌝ }
 {
     let to = number(text, at, i);
-    let to = labelled(text, to, b" ", j);
-    let to = labelled(text, to, b" h ", height);
-    let to = labelled(text, to, b" m ", middle);
-    let to = labelled(text, to, b" l ", length);
-    letters(text, to, b" :")
+    let to = row(text, to, b" ", j, b" h ", height, b" m");
+    row(text, to, b" ", middle, b" l ", length, b" :")
 }

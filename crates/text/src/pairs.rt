@@ -1,5 +1,7 @@
 // The lines of the pairs: the filled cells of the queried nonterminal, by i, then j.
+ghost use mathlib.Core.Path.{_≡_};
 ghost use Prim.Native.Nat.{_*_, _<_};
+ghost use Rattle.meaning.specs.Table.{cell as cellOf};
 ghost use Rattle.lists.specs.Lists.{net};
 ghost use Rattle.text.specs.Pen.{Ready, FilledAt, TailPenned, LinePenned, LinesPenned};
 use crate::Count;
@@ -38,7 +40,7 @@ fn tail(
     }
 }
 
-// The line of a filled cell.
+// The line of a filled cell, whose number is c.
 fn line(
     text: &mut [u8],
     at: usize,
@@ -48,15 +50,16 @@ fn line(
     a: usize,
     i: usize,
     j: usize,
+    c: usize,
     table: &[u64],
     lengths: &[u32],
 ) -> usize
     requires { ⌜ at < 4611686018427380000 ⌝ }
     requires { ⌜ Ready numbers (now rules) (now edges) (now table) (now lengths) a ⌝ }
     requires { ⌜ FilledAt (numbers .nodes) (now table) a i j ⌝ }
+    requires { ⌜ c ≡ cellOf (numbers .nodes) a i j ⌝ }
     ensures { λ r. ⌜ LinePenned (net numbers (now (rules .entry)) (now (edges .entry))) (now (table .entry)) (now (lengths .entry)) a i j (now (text .entry)) (now (text .exit)) at r ⌝ }
 {
-    let c = cell(numbers.nodes as u16, a as u16, i as u16, j as u16);
     let parts = Key { word: table[c] }.split();
     let to = pair(
         text,
@@ -92,7 +95,8 @@ pub fn pairs(
     let mut pairs = 0;
     let mut c = 0;
     while c < n * n {
-        if table[first + c] != Key::EMPTY {
+        let k = first + c;
+        if table[k] != Key::EMPTY {
             to = line(
                 text,
                 to,
@@ -102,6 +106,7 @@ pub fn pairs(
                 a,
                 c / n,
                 c % n,
+                k,
                 table,
                 lengths,
             );

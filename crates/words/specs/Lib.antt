@@ -2,5 +2,4 @@
 pub mod Bytes
 pub mod Tab
 pub mod First
-pub mod Packed
 pub mod Refusals

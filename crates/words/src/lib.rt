@@ -6,8 +6,6 @@ ghost use mathlib.Core.Path.{_≡_};
 ghost use Rattle.words.specs.Bytes.{leAt, putLe};
 ghost use Rattle.words.specs.Refusals.{must as mustOf, _andThen_};
 
-pub mod packing;
-
 // Document 01: "Each refusal is a number and a place."
 pub struct Refusal {
     pub number: u32,

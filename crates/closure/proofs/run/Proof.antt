@@ -7,10 +7,11 @@ use Rattle.key.specs.Keys.{EMPTY}
 use Rattle.words.specs.declared.Check.the-variants.{Good}
 use Rattle.meaning.specs.Final.{FinalTable}
 use Rattle.lists.specs.Lists.{net, cellsOf}
-use Rattle.step.specs.Calls.{Started}
+use Rattle.start.specs.Calls.{Started}
+use Rattle.start.proofs.Filling.{filled}
 use Rattle.closure.specs.Runs.{runCheck}
 use Rattle.closure.proofs.Fills.{over-same}
-use Rattle.closure.proofs.Closing.{Ready, ready, started, rules-right, start-low, settled-final, settled-high, final-linked, finished-lengths}
+use Rattle.closure.proofs.Closing.{Ready, ready, rules-right, start-low, settled-final, settled-high, final-linked, finished-lengths}
 use Rattle.closure.proofs.run.Statement.{statement}
 use Rattle.closure.proofs.run.Tie as tie
 
@@ -22,14 +23,14 @@ is-ready : (c : tie.After-enum-told) → let a = c .before .before .before .befo
 is-ready c = ready _ _ _ _ _ (good c)
 
 -- the start, then the passes
-is-started : (c : tie.After-start) → let a = c .before .before .before .before .before .before .before .before .before .args in Started (net (a .numbers) (a .rules .now) (a .edges .now)) (a .table .now) (c .start .last .1 .1 .1 .0)
-is-started c = let a = c .before .before .before .before .before .before .before .before .before .args in started (a .numbers) (a .rules .now) (a .edges .now) (a .table .now) (a .lengths .now) (good (c .before .before)) _ _ (c .start .ensures)
+is-started : (c : tie.After-begin) → let a = c .before .before .before .before .before .before .before .before .before .before .before .before .args in Started (net (a .numbers) (a .rules .now) (a .edges .now)) (a .table .now) (c .begin .last .1 .1 .1 .1 .0)
+is-started c = let r = is-ready (c .before .before .before .before .before) in rw (c .begin .ensures) (filled _ _ _ (r .lists) _ (r .table))
 
 is-final : (c : tie.After-enum-told2) → let a = c .before .before .before .before .before .before .before .before .before .before .before .before .before .before .before .before .before .before .before .before .args in FinalTable (net (a .numbers) (a .rules .now) (a .edges .now)) (c .before .before .before .before .settle .last .0)
 is-final c =
-    let b = c .before .before .before .before .before .before .before .before .before .before .before in
-    let a = c .before .before .before .before .before .before .before .before .before .before .before .before .before .before .before .before .before .before .before .before .args in
-    settled-final (a .numbers) (a .rules .now) (a .edges .now) (is-ready (b .before .before) .lists) _ (is-started b .start) _ (rw (c .enum-told2 .given .1) at (c .before .before .before .before .settle .ensures))
+    let b = c .before .before .before .before .before .before .before .before in
+    let a = b .before .before .before .before .before .before .before .before .before .before .before .before .args in
+    settled-final (a .numbers) (a .rules .now) (a .edges .now) (is-ready (b .before .before .before .before .before) .lists) _ (is-started b .start) _ (rw (c .enum-told2 .given .1) at (c .before .before .before .before .settle .ensures))
 
 run-check-requires : tie.Need-run-check-requires
 run-check-requires c κs = search needs
@@ -43,22 +44,25 @@ returns c = rw (sym (c .before .before .before .run-check .ensures) ∙ c .befor
 enum-told : tie.Need-enum-told
 enum-told c = search needs
 
-start-requires : tie.Need-start-requires
-start-requires c κs = search needs
+cast-t15 : tie.Need-cast-t15
+cast-t15 c = omega (arith, is-ready (c .before) .lists .nodes .high)
 
-cast-t17 : tie.Need-cast-t17
-cast-t17 c = omega (arith, is-ready (c .before .before .before .before .before) .lists .nodes .high)
-
-cast-t18 : tie.Need-cast-t18
-cast-t18 c = omega (arith, is-ready (c .before .before .before .before .before .before) .lists .nonterminals .high)
+cast-t16 : tie.Need-cast-t16
+cast-t16 c = omega (arith, is-ready (c .before .before) .lists .nonterminals .high)
 
 cells-requires : tie.Need-cells-requires
 cells-requires c κs = search needs
 
+cast-count : tie.Need-cast-count
+cast-count c = omega (arith, is-ready (c .before .before .before) .lists .many-rules)
+
+begin-requires : tie.Need-begin-requires
+begin-requires c κs = search needs
+
 settle-requires : tie.Need-settle-requires
 settle-requires c κs =
-    let b = c .before .before .before .before .before .before in
-    let r = is-ready (b .before .before) .lists in
+    let b = c .before .before .before in
+    let r = is-ready (b .before .before .before .before .before) .lists in
     (start-low _ _ _ r _ (is-started b .start), rules-right _ _ _ r)
 
 enum-known-end : tie.Need-enum-known-end
@@ -67,12 +71,13 @@ enum-known-end c = search needs
 stop-requires : tie.Need-stop-requires
 stop-requires c κs =
     let b = c .before .before .before .before .before .before .before in
-    let r = is-ready (b .before .before .before .before .before .before .before .before .before) in
-    let e = b .before .before .cells .ensures in
-    (omega (arith, e, r .table, b .settle .kept .0, b .before .before .before .before .before .before .before .start .kept .1 .1 .1 .0), omega (arith, e, r .lengths))
+    let d = b .before .before .before .before in
+    let r = is-ready (d .before .before .before .before .before) in
+    let e = d .before .before .cells .ensures in
+    (omega (arith, e, r .table, b .settle .kept .0, d .begin .kept .1 .1 .1 .1 .0), omega (arith, e, r .lengths))
 
 same-length : tie.Need-same-length
-same-length c = let b = c .before .before .before .before .before .before .before .before .before .before .before .before in c .before .before .before .before .stop .kept .0 ∙ (b .settle .kept .0 ∙ b .before .before .before .before .before .before .before .start .kept .1 .1 .1 .0)
+same-length c = let b = c .before .before .before .before .before .before .before .before .before .before .before .before in c .before .before .before .before .stop .kept .0 ∙ (b .settle .kept .0 ∙ b .before .before .before .before .begin .kept .1 .1 .1 .1 .0)
 
 same-length-2 : tie.Need-same-length-2
 same-length-2 c = c .before .before .before .before .stop .kept .1 .0
@@ -81,11 +86,11 @@ returns-2 : tie.Need-returns-2
 returns-2 c =
     let p = c .before .before .before .before .stop .ensures in
     let b = c .before .before .before .before .before .before .before .before .before .before .before .before in
-    let d = b .before .before .before .before .before .before .before in
-    let a = d .before .before .before .before .before .before .before .before .before .args in
-    let r = is-ready (d .before .before) in
-    let n = b .before .before .cells .ensures in
-    rw (good (d .before .before))
+    let d = b .before .before .before .before in
+    let a = d .before .before .before .before .before .before .before .before .before .before .before .before .args in
+    let r = is-ready (d .before .before .before .before .before) in
+    let n = d .before .before .cells .ensures in
+    rw (good (d .before .before .before .before .before))
     (record {
       cell = _;
       answer = refl;
@@ -106,10 +111,11 @@ fill-all-requires c κs =
 depth-of-requires : tie.Need-depth-of-requires
 depth-of-requires c κs =
     let b = c .before .before .before .before .before .before .before .before .before .before in
-    omega (arith, b .before .before .cells .ensures, is-ready (b .before .before .before .before .before .before .before .before .before) .table, b .settle .kept .0, b .before .before .before .before .before .before .before .start .kept .1 .1 .1 .0)
+    let d = b .before .before .before .before in
+    omega (arith, d .before .before .cells .ensures, is-ready (d .before .before .before .before .before) .table, b .settle .kept .0, d .begin .kept .1 .1 .1 .1 .0)
 
 same-length-3 : tie.Need-same-length-3
-same-length-3 c = let b = c .before .before .before .before .before .before .before .before .before .before .before in b .settle .kept .0 ∙ b .before .before .before .before .before .before .before .start .kept .1 .1 .1 .0
+same-length-3 c = let b = c .before .before .before .before .before .before .before .before .before .before .before in b .settle .kept .0 ∙ b .before .before .before .before .begin .kept .1 .1 .1 .1 .0
 
 same-length-4 : tie.Need-same-length-4
 same-length-4 c = c .before .before .before .before .fill-all .kept .1 .0
@@ -119,14 +125,14 @@ returns-3 c =
     let f = c .before .before .before .before .fill-all .ensures in
     let e = c .before .before .before .before .before .before .before in
     let b = c .before .before .before .before .before .before .before .before .before .before .before in
-    let d = b .before .before .before .before .before .before .before in
-    let a = d .before .before .before .before .before .before .before .before .before .args in
-    let r = is-ready (d .before .before) in
-    rw (good (d .before .before))
+    let d = b .before .before .before .before in
+    let a = d .before .before .before .before .before .before .before .before .before .before .before .before .args in
+    let r = is-ready (d .before .before .before .before .before) in
+    rw (good (d .before .before .before .before .before))
     (record {
       final = is-final e;
       lengths = finished-lengths (a .numbers) (a .rules .now) (a .edges .now) (r .lists) _ (is-final e) _ _ f;
-      deep = rw (b .before .before .cells .ensures) at (c .depth-of .ensures);
+      deep = rw (d .before .before .cells .ensures) at (c .depth-of .ensures);
       kept = b .settle .ensures .kept ∙ is-started d .kept;
       kept-lengths = f .kept;
     })
@@ -139,10 +145,11 @@ run-spec =
     enum-known-c
     returns
     enum-told
-    start-requires
-    cast-t17
-    cast-t18
+    cast-t15
+    cast-t16
     cells-requires
+    cast-count
+    begin-requires
     settle-requires
     enum-known-end
     stop-requires

@@ -1,19 +1,20 @@
 -- `nevelknop::nevelknop_run` meets its contract: 5 and 4 by the bytes, the rest by the words. Assumes nothing.
 use mathlib.Core.Path.{_≡_, refl, sym, _∙_}
-use native.Mathlib.Omega.{arith}
-use lib.ListN.{length, length-take}
+use Prim.Native.Nat.{ℕ}
+use lib.ListN.{length, length-replicate}
+use lib.Seq.{length-take-le}
 use Rattle.words.specs.declared.Check.the-variants.{Good}
 use Rattle.nevelknop.specs.Calls.{RunBytes}
 use Rattle.nevelknop.proofs.Orders.{Counted, counts, counted, counts-good, counts-bad}
 use Rattle.nevelknop.proofs.Places.{low-counts}
-use Rattle.nevelknop.proofs.Lent.{lists-front}
+use Rattle.nevelknop.proofs.Lent.{within, lists-front}
 use borrow.Author.Needs.{needs}
 use Rattle.nevelknop.proofs.nevelknop_run.Statement.{statement}
 use Rattle.nevelknop.proofs.nevelknop_run.Tie as tie
 
 -- the bytes passed 5 and 4
 good : (c : tie.After-enum-told) → counts (c .before .before .before .numbers-of .result) (length (c .before .before .before .before .before .before .before .before .args .rules .now)) (length (c .before .before .before .before .before .before .before .before .args .edges .now)) ≡ Good
-good c = cc
+good c = sym (c .before .before .counts-check .ensures) ∙ c .enum-told .given .1
 
 few : (c : tie.After-enum-told) → Counted (length (c .before .before .before .before .before .before .before .before .args .rules .now)) (length (c .before .before .before .before .before .before .before .before .args .edges .now))
 few c = counted _ _ _ (good c)
@@ -41,37 +42,37 @@ enum-told : tie.Need-enum-told
 enum-told c = search needs
 
 slice-aggregate-unpack16 : tie.Need-slice-aggregate-unpack16
-slice-aggregate-unpack16 c = search needs
+slice-aggregate-unpack16 c = sym (length-replicate {A = ℕ} 768 0)
 
 unpack16-requires : tie.Need-unpack16-requires
 unpack16-requires c κs = search needs
 
 slice-aggregate-unpack16-2 : tie.Need-slice-aggregate-unpack16-2
-slice-aggregate-unpack16-2 c = search needs
+slice-aggregate-unpack16-2 c = sym (length-replicate {A = ℕ} 12288 0)
 
 unpack16-requires-2 : tie.Need-unpack16-requires-2
 unpack16-requires-2 c κs = search needs
 
 array-share-prefix-r : tie.Need-array-share-prefix-r
-array-share-prefix-r c = omega (arith, few (c .before .before .before .before .before .before), c .before .before .before .before .unpack16 .kept .1 .0)
+array-share-prefix-r c = within (few (c .before .before .before .before .before .before) .few-rules) (c .before .before .before .before .unpack16 .kept .1 .0)
 
 slice-aggregate-run-lists : tie.Need-slice-aggregate-run-lists
-slice-aggregate-run-lists c = simp length-take (omega (arith, few (c .before .before .before .before .before .before .before), c .before .before .before .before .before .unpack16 .kept .1 .0))
+slice-aggregate-run-lists c = sym (length-take-le _ _ (array-share-prefix-r (c .before)))
 
 array-share-prefix-e : tie.Need-array-share-prefix-e
-array-share-prefix-e c = omega (arith, few (c .before .before .before .before .before .before .before), c .before .before .unpack162 .kept .1 .0)
+array-share-prefix-e c = within (few (c .before .before .before .before .before .before .before) .few-edges) (c .before .before .unpack162 .kept .1 .0)
 
 slice-aggregate-run-lists-2 : tie.Need-slice-aggregate-run-lists-2
-slice-aggregate-run-lists-2 c = simp length-take (omega (arith, few (c .before .before .before .before .before .before .before .before), c .before .before .before .unpack162 .kept .1 .0))
+slice-aggregate-run-lists-2 c = sym (length-take-le _ _ (array-share-prefix-e (c .before)))
 
 run-lists-requires : tie.Need-run-lists-requires
 run-lists-requires c κs = search needs
 
 same-length : tie.Need-same-length
-same-length c = search needs
+same-length c = c .before .before .before .before .run-lists .kept .1 .1 .1 .0
 
 same-length-2 : tie.Need-same-length-2
-same-length-2 c = search needs
+same-length-2 c = c .before .before .before .before .run-lists .kept .1 .1 .1 .1 .0
 
 returns-2 : tie.Need-returns-2
 returns-2 c =

@@ -1,12 +1,13 @@
 -- `nevelknop::nevelknop_witness` meets its contract: 5 and 4 by the bytes, the rest by the words. Assumes nothing.
 use mathlib.Core.Path.{_≡_, refl, sym, _∙_}
-use native.Mathlib.Omega.{arith}
-use lib.ListN.{length, length-take}
+use Prim.Native.Nat.{ℕ}
+use lib.ListN.{length, length-replicate}
+use lib.Seq.{length-take-le}
 use Rattle.words.specs.declared.Check.the-variants.{Good}
 use Rattle.nevelknop.specs.Calls.{WitnessBytes}
 use Rattle.nevelknop.proofs.Orders.{Counted, counts, counted, counts-good, counts-bad}
 use Rattle.nevelknop.proofs.Places.{low-counts}
-use Rattle.nevelknop.proofs.Lent.{lists-front}
+use Rattle.nevelknop.proofs.Lent.{within, lists-front}
 use borrow.Author.Needs.{needs}
 use Rattle.nevelknop.proofs.nevelknop_witness.Statement.{statement}
 use Rattle.nevelknop.proofs.nevelknop_witness.Tie as tie
@@ -41,34 +42,34 @@ enum-told : tie.Need-enum-told
 enum-told c = search needs
 
 slice-aggregate-unpack16 : tie.Need-slice-aggregate-unpack16
-slice-aggregate-unpack16 c = search needs
+slice-aggregate-unpack16 c = sym (length-replicate {A = ℕ} 768 0)
 
 unpack16-requires : tie.Need-unpack16-requires
 unpack16-requires c κs = search needs
 
 slice-aggregate-unpack16-2 : tie.Need-slice-aggregate-unpack16-2
-slice-aggregate-unpack16-2 c = search needs
+slice-aggregate-unpack16-2 c = sym (length-replicate {A = ℕ} 12288 0)
 
 unpack16-requires-2 : tie.Need-unpack16-requires-2
 unpack16-requires-2 c κs = search needs
 
 array-share-prefix-r : tie.Need-array-share-prefix-r
-array-share-prefix-r c = omega (arith, few (c .before .before .before .before .before .before), c .before .before .before .before .unpack16 .kept .1 .0)
+array-share-prefix-r c = within (few (c .before .before .before .before .before .before) .few-rules) (c .before .before .before .before .unpack16 .kept .1 .0)
 
 slice-aggregate-witness-lists : tie.Need-slice-aggregate-witness-lists
-slice-aggregate-witness-lists c = simp length-take (omega (arith, few (c .before .before .before .before .before .before .before), c .before .before .before .before .before .unpack16 .kept .1 .0))
+slice-aggregate-witness-lists c = sym (length-take-le _ _ (array-share-prefix-r (c .before)))
 
 array-share-prefix-e : tie.Need-array-share-prefix-e
-array-share-prefix-e c = omega (arith, few (c .before .before .before .before .before .before .before), c .before .before .unpack162 .kept .1 .0)
+array-share-prefix-e c = within (few (c .before .before .before .before .before .before .before) .few-edges) (c .before .before .unpack162 .kept .1 .0)
 
 slice-aggregate-witness-lists-2 : tie.Need-slice-aggregate-witness-lists-2
-slice-aggregate-witness-lists-2 c = simp length-take (omega (arith, few (c .before .before .before .before .before .before .before .before), c .before .before .before .unpack162 .kept .1 .0))
+slice-aggregate-witness-lists-2 c = sym (length-take-le _ _ (array-share-prefix-e (c .before)))
 
 witness-lists-requires : tie.Need-witness-lists-requires
 witness-lists-requires c κs = search needs
 
 same-length : tie.Need-same-length
-same-length c = search needs
+same-length c = c .before .before .witness-lists .kept .1 .1 .1 .1 .1 .1 .1 .1 .0
 
 returns-2 : tie.Need-returns-2
 returns-2 c =

@@ -4,8 +4,9 @@ use native.Mathlib.Omega.{arith}
 use lib.ListN.{length}
 use borrow.Author.Needs.{needs}
 use Rattle.words.specs.declared.Check.the-variants.{Good}
+use Rattle.start.proofs.Order.{Ready}
 use Rattle.step.specs.Calls.{callCheck}
-use Rattle.step.proofs.Order.{Ready, Arguments, call-good, step-stop, step-next}
+use Rattle.step.proofs.Order.{Arguments, call-good, step-stop, step-next}
 use Rattle.step.proofs.step.Statement.{statement}
 use Rattle.step.proofs.step.Tie as tie
 

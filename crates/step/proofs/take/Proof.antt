@@ -1,12 +1,12 @@
 -- `step::take` meets its contract. Assumes nothing.
-use mathlib.Core.Bool.{Bool}
-use mathlib.Core.List.{List}
-use mathlib.Core.Path.{sym, ap, _∙_}
-use Prim.Native.Nat.{ℕ}
+use mathlib.Core.Path.{_≡_, sym, ap}
+use Prim.Native.Nat.{_<_}
 use native.Mathlib.Omega.{arith}
+use lib.ListN.{length}
 use borrow.Author.Needs.{needs}
-use Rattle.step.specs.declared.StepAnswer.the-variants.{Changed}
-use Rattle.step.proofs.Entered.{taken-no, taken-high, taken-yes}
+use Rattle.key.specs.Keys.{heightOf}
+use Rattle.key.specs.declared.Parts.{Parts}
+use Rattle.step.proofs.Entered.{key-inside, taken-no, taken-high, taken-yes}
 use Rattle.step.proofs.take.Statement.{statement}
 use Rattle.step.proofs.take.Tie as tie
 
@@ -19,23 +19,34 @@ same-length c = search needs
 returns : tie.Need-returns
 returns c = sym (taken-no _ _ _ (omega arith))
 
-height-requires : tie.Need-height-requires
-height-requires c κs = search needs
+split-requires : tie.Need-split-requires
+split-requires c κs = search needs
+
+-- the height of the key
+high : (c : tie.After-split) → c .split .result .height ≡ heightOf (c .before .before .before .before .before .args .key)
+high c = ap (λ (p : Parts). p .height) (c .split .ensures)
 
 same-length-2 : tie.Need-same-length-2
 same-length-2 c = search needs
 
 returns-2 : tie.Need-returns-2
-returns-2 c = sym (taken-high _ _ _ (omega arith) (omega arith))
+returns-2 c = sym (taken-high _ _ _ (omega arith) (omega (arith, high (c .before .before))))
 
-enter-requires : tie.Need-enter-requires
-enter-requires c κs = search needs
+-- the key is below the word read, so that word is in the table
+inside : (c : tie.After-split) → let a = c .before .before .before .before .before .args in a .c < length (a .table .now)
+inside c = let a = c .before .before .before .before .before .args in key-inside (a .table .now) (a .c) (a .key) (omega arith)
+
+mul-table : tie.Need-mul-table
+mul-table c = omega (arith, inside (c .before .before))
+
+slice-write-table : tie.Need-slice-write-table
+slice-write-table c = inside (c .before .before)
 
 same-length-3 : tie.Need-same-length-3
 same-length-3 c = search needs
 
 returns-3 : tie.Need-returns-3
-returns-3 c = ap (λ (p : Bool × List ℕ). (Changed, p .1)) (c .before .before .enter .ensures) ∙ sym (taken-yes _ _ _ (omega arith) (omega arith))
+returns-3 c = sym (taken-yes _ _ _ (omega arith) (omega (arith, high (c .before .before))))
 
 pub take-spec : {M : Type 1} → statement M
 take-spec =
@@ -44,9 +55,10 @@ take-spec =
     read-requires
     same-length
     returns
-    height-requires
+    split-requires
     same-length-2
     returns-2
-    enter-requires
+    mul-table
+    slice-write-table
     same-length-3
     returns-3)

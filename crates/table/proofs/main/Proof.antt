@@ -1,9 +1,10 @@
 -- `table::main` meets its contract: an accepted deck's lists lie within their room, and its numbers within their limits. Assumes nothing.
 use mathlib.Core.Path.{sym}
 use native.Mathlib.Omega.{arith}
+use lib.ListN.{replicate}
 use lib.Seq.{length-take-le}
 use Rattle.lists.proofs.Right.{accepted}
-use Rattle.text.proofs.Reports.{read-is}
+use Rattle.deck.proofs.Leaves.{read-is}
 use borrow.Author.Needs.{needs}
 use Rattle.table.proofs.main.Statement.{statement}
 use Rattle.table.proofs.main.Tie as tie
@@ -13,12 +14,6 @@ slice-aggregate-read-full c = search needs
 
 read-full-requires : tie.Need-read-full-requires
 read-full-requires c κs = search needs
-
-rule-words-requires : tie.Need-rule-words-requires
-rule-words-requires c κs = search needs
-
-edge-words-requires : tie.Need-edge-words-requires
-edge-words-requires c κs = search needs
 
 array-share-prefix-deck : tie.Need-array-share-prefix-deck
 array-share-prefix-deck c = search needs
@@ -39,45 +34,45 @@ enum-known-answer : tie.Need-enum-known-answer
 enum-known-answer c = search needs
 
 mul-r : tie.Need-mul-r
-mul-r c =
-    let r = c .before .before .before .before .before .before .read .ensures in
-    let s = read-is _ (c .before .before .before .before .before .before .before .before .before .before .before .rule-words .result) (c .before .before .before .before .before .before .before .before .before .before .edge-words .result) (sym (c .before .before .before .before .before .before .before .before .before .before .before .rule-words .ensures)) (sym (c .before .before .before .before .before .before .before .before .before .before .edge-words .ensures)) (r .0) (r .1 .0) (r .1 .1) (c .before .before .answer .given .1) in
-    omega (arith, s .rules-fit)
+mul-r c = let b = c .before .before in
+    let r = b .before .before .before .before .read .ensures in
+    let s = read-is _ (replicate 768 0) (replicate 12288 0) (r .0) (r .1 .0) (r .1 .1) (b .answer .given .1) in
+    omega (arith, s .rules-many)
 
 mul-e : tie.Need-mul-e
-mul-e c =
-    let r = c .before .before .before .before .before .before .before .read .ensures in
-    let s = read-is _ (c .before .before .before .before .before .before .before .before .before .before .before .before .rule-words .result) (c .before .before .before .before .before .before .before .before .before .before .before .edge-words .result) (sym (c .before .before .before .before .before .before .before .before .before .before .before .before .rule-words .ensures)) (sym (c .before .before .before .before .before .before .before .before .before .before .before .edge-words .ensures)) (r .0) (r .1 .0) (r .1 .1) (c .before .before .before .answer .given .1) in
-    omega (arith, s .edges-fit)
+mul-e c = let b = c .before .before .before in
+    let r = b .before .before .before .before .read .ensures in
+    let s = read-is _ (replicate 768 0) (replicate 12288 0) (r .0) (r .1 .0) (r .1 .1) (b .answer .given .1) in
+    omega (arith, s .edges-many)
 
 array-share-prefix-rules : tie.Need-array-share-prefix-rules
-array-share-prefix-rules c =
-    let r = c .before .before .before .before .before .before .before .read .ensures in
-    let s = read-is _ (c .before .before .before .before .before .before .before .before .before .before .before .before .rule-words .result) (c .before .before .before .before .before .before .before .before .before .before .before .edge-words .result) (sym (c .before .before .before .before .before .before .before .before .before .before .before .before .rule-words .ensures)) (sym (c .before .before .before .before .before .before .before .before .before .before .before .edge-words .ensures)) (r .0) (r .1 .0) (r .1 .1) (c .before .before .before .answer .given .1) in
-    omega (arith, s .rules-fit, s .rules-long)
+array-share-prefix-rules c = let b = c .before .before .before in
+    let r = b .before .before .before .before .read .ensures in
+    let s = read-is _ (replicate 768 0) (replicate 12288 0) (r .0) (r .1 .0) (r .1 .1) (b .answer .given .1) in
+    s .rules-fit
 
 slice-aggregate-closed : tie.Need-slice-aggregate-closed
-slice-aggregate-closed c =
-    let r = c .before .before .before .before .before .before .before .before .read .ensures in
-    let s = read-is _ (c .before .before .before .before .before .before .before .before .before .before .before .before .before .rule-words .result) (c .before .before .before .before .before .before .before .before .before .before .before .before .edge-words .result) (sym (c .before .before .before .before .before .before .before .before .before .before .before .before .before .rule-words .ensures)) (sym (c .before .before .before .before .before .before .before .before .before .before .before .before .edge-words .ensures)) (r .0) (r .1 .0) (r .1 .1) (c .before .before .before .before .answer .given .1) in
-    sym (length-take-le _ _ (omega (arith, s .rules-fit, s .rules-long)))
+slice-aggregate-closed c = let b = c .before .before .before .before in
+    let r = b .before .before .before .before .read .ensures in
+    let s = read-is _ (replicate 768 0) (replicate 12288 0) (r .0) (r .1 .0) (r .1 .1) (b .answer .given .1) in
+    sym (length-take-le _ _ (s .rules-fit))
 
 array-share-prefix-edges : tie.Need-array-share-prefix-edges
-array-share-prefix-edges c =
-    let r = c .before .before .before .before .before .before .before .before .read .ensures in
-    let s = read-is _ (c .before .before .before .before .before .before .before .before .before .before .before .before .before .rule-words .result) (c .before .before .before .before .before .before .before .before .before .before .before .before .edge-words .result) (sym (c .before .before .before .before .before .before .before .before .before .before .before .before .before .rule-words .ensures)) (sym (c .before .before .before .before .before .before .before .before .before .before .before .before .edge-words .ensures)) (r .0) (r .1 .0) (r .1 .1) (c .before .before .before .before .answer .given .1) in
-    omega (arith, s .edges-fit, s .edges-long)
+array-share-prefix-edges c = let b = c .before .before .before .before in
+    let r = b .before .before .before .before .read .ensures in
+    let s = read-is _ (replicate 768 0) (replicate 12288 0) (r .0) (r .1 .0) (r .1 .1) (b .answer .given .1) in
+    s .edges-fit
 
 slice-aggregate-closed-2 : tie.Need-slice-aggregate-closed-2
-slice-aggregate-closed-2 c =
-    let r = c .before .before .before .before .before .before .before .before .before .read .ensures in
-    let s = read-is _ (c .before .before .before .before .before .before .before .before .before .before .before .before .before .before .rule-words .result) (c .before .before .before .before .before .before .before .before .before .before .before .before .before .edge-words .result) (sym (c .before .before .before .before .before .before .before .before .before .before .before .before .before .before .rule-words .ensures)) (sym (c .before .before .before .before .before .before .before .before .before .before .before .before .before .edge-words .ensures)) (r .0) (r .1 .0) (r .1 .1) (c .before .before .before .before .before .answer .given .1) in
-    sym (length-take-le _ _ (omega (arith, s .edges-fit, s .edges-long)))
+slice-aggregate-closed-2 c = let b = c .before .before .before .before .before in
+    let r = b .before .before .before .before .read .ensures in
+    let s = read-is _ (replicate 768 0) (replicate 12288 0) (r .0) (r .1 .0) (r .1 .1) (b .answer .given .1) in
+    sym (length-take-le _ _ (s .edges-fit))
 
 closed-requires : tie.Need-closed-requires
-closed-requires c κs =
-    let r = c .before .before .before .before .before .before .before .before .before .read .ensures in
-    let s = read-is _ (c .before .before .before .before .before .before .before .before .before .before .before .before .before .before .rule-words .result) (c .before .before .before .before .before .before .before .before .before .before .before .before .before .edge-words .result) (sym (c .before .before .before .before .before .before .before .before .before .before .before .before .before .before .rule-words .ensures)) (sym (c .before .before .before .before .before .before .before .before .before .before .before .before .before .edge-words .ensures)) (r .0) (r .1 .0) (r .1 .1) (c .before .before .before .before .before .answer .given .1) in
+closed-requires c κs = let b = c .before .before .before .before .before in
+    let r = b .before .before .before .before .read .ensures in
+    let s = read-is _ (replicate 768 0) (replicate 12288 0) (r .0) (r .1 .0) (r .1 .1) (b .answer .given .1) in
     let l = accepted _ _ _ (s .lists) in
     (l .nodes .low, (l .nodes .high, l .nonterminals .high))
 
@@ -99,8 +94,6 @@ main-spec =
     (tie.spec
     slice-aggregate-read-full
     read-full-requires
-    rule-words-requires
-    edge-words-requires
     array-share-prefix-deck
     slice-aggregate-read
     slice-aggregate-read-2

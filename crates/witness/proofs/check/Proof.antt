@@ -15,7 +15,7 @@ enum-told c = search needs
 
 returns : tie.Need-returns
 unfolding checkAnswer
-returns c = let e = c .enum-told .given .1 in e ∙ sym (and-stop _ (cc))
+returns c = let e = c .enum-told .given .1 in e ∙ sym (and-stop _ (sym (c .before .before .check .ensures) ∙ e))
 
 enum-told-2 : tie.Need-enum-told-2
 enum-told-2 c = search needs
@@ -25,7 +25,10 @@ table-check-requires c κs = sizes _ _ _ (sym (c .before .before .check .ensures
 
 returns-2 : tie.Need-returns-2
 unfolding checkAnswer
-returns-2 c = c .table-check .ensures ∙ sym (and-next (cc))
+returns-2 c =
+    let check = c .before .before .before .check in
+    let enum-told2 = c .before .enum-told2 in
+    c .table-check .ensures ∙ sym (and-next (sym (check .ensures) ∙ enum-told2 .given .1))
 
 pub check-spec : {M : Type 1} → statement M
 check-spec =

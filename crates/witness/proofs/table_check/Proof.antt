@@ -32,7 +32,13 @@ enum-told c = search needs
 
 returns : tie.Need-returns
 unfolding tableCheck
-returns c = let e = c .enum-told .given .1 in e ∙ sym (sym (and-assoc _ _ _) ∙ and-stop _ (cc))
+returns c =
+    let and-then = c .before .before .and-then in
+    let room2 = c .before .before .before .room2 in
+    let room = c .before .before .before .before .room in
+    let e = c .enum-told .given .1 in
+    let roomy = rw (room .ensures, room2 .ensures) at (sym (and-then .ensures) ∙ e) in
+    e ∙ sym (sym (and-assoc _ _ _) ∙ and-stop _ roomy)
 
 enum-told-2 : tie.Need-enum-told-2
 enum-told-2 c = search needs
@@ -47,7 +53,13 @@ cells-check-requires c κs =
 
 returns-2 : tie.Need-returns-2
 unfolding tableCheck
-returns-2 c = c .cells-check .ensures ∙ sym (sym (and-assoc _ _ _) ∙ and-next (cc))
+returns-2 c =
+    let enum-told2 = c .before .before .enum-told2 in
+    let and-then = c .before .before .before .before .and-then in
+    let room2 = c .before .before .before .before .before .room2 in
+    let room = c .before .before .before .before .before .before .room in
+    let roomy = rw (room .ensures, room2 .ensures) at (sym (and-then .ensures) ∙ enum-told2 .given .1) in
+    c .cells-check .ensures ∙ sym (sym (and-assoc _ _ _) ∙ and-next roomy)
 
 pub table-check-spec : {M : Type 1} → statement M
 table-check-spec =

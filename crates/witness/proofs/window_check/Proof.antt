@@ -21,7 +21,13 @@ enum-told c = search needs
 
 returns : tie.Need-returns
 unfolding windowCheck
-returns c = let e = c .enum-told .given .1 in e ∙ sym (sym (and-assoc _ _ _) ∙ and-stop _ (cc))
+returns c =
+    let and-then = c .before .before .and-then in
+    let arguments = c .before .before .before .arguments in
+    let check = c .before .before .before .before .check in
+    let e = c .enum-told .given .1 in
+    let asked = rw (check .ensures, arguments .ensures) at (sym (and-then .ensures) ∙ e) in
+    e ∙ sym (sym (and-assoc _ _ _) ∙ and-stop _ asked)
 
 enum-told-2 : tie.Need-enum-told-2
 enum-told-2 c = search needs
@@ -39,7 +45,15 @@ enum-told-3 c = search needs
 
 returns-2 : tie.Need-returns-2
 unfolding windowCheck
-returns-2 c = let e = c .enum-told3 .given .1 in e ∙ sym (sym (and-assoc _ _ _) ∙ and-next (cc) ∙ and-stop _ (cc))
+returns-2 c =
+    let and-then = c .before .before .before .before .before .and-then in
+    let enum-told2 = c .before .before .before .enum-told2 in
+    let check = c .before .before .before .before .before .before .before .check in
+    let arguments = c .before .before .before .before .before .before .arguments in
+    let table-check = c .before .before .table-check in
+    let e = c .enum-told3 .given .1 in
+    let asked = rw (check .ensures, arguments .ensures) at (sym (and-then .ensures) ∙ enum-told2 .given .1) in
+    e ∙ sym (sym (and-assoc _ _ _) ∙ and-next asked ∙ and-stop _ (sym (table-check .ensures) ∙ e))
 
 enum-told-4 : tie.Need-enum-told-4
 enum-told-4 c = search needs

@@ -1,6 +1,7 @@
 -- `closure::depth::depth_of` meets its contract. Assumes nothing.
-use mathlib.Core.Path.{_≡_, refl, ap₂, _∙_}
-use Prim.Native.Nat.{_-_, _≤_, max}
+use mathlib.Core.Path.{_≡_, refl}
+use mathlib.Core.Logic.{⊎-elim}
+use Prim.Native.Nat.{_-_, _≤_}
 use native.Mathlib.Omega.{arith}
 use native.Mathlib.Numerals.{add-one}
 use borrow.Author.Needs.{needs}
@@ -26,9 +27,6 @@ shared-slice-read-height c = omega arith
 height-requires : tie.Need-height-requires Inv-loop μ-loop
 height-requires c κs = search needs
 
-larger-requires : tie.Need-larger-requires Inv-loop μ-loop
-larger-requires c κs = search needs
-
 add-c : tie.Need-add-c Inv-loop μ-loop
 add-c c = omega arith
 
@@ -38,7 +36,10 @@ loop-less c = omega arith
 loop-again : tie.Need-loop-again Inv-loop μ-loop
 loop-again c =
     let l = c .before .before .before .before .loop in
-    (rw (add-one (l .c)) (c .larger .ensures ∙ ap₂ max (l .inv .0) (c .before .height .ensures)), omega arith)
+    let h = c .before .height .ensures in (
+      rw (add-one (l .c)) (⊎-elim (λ w. omega (arith, w .1, w .0 .taken, l .inv .0, h)) (λ w. omega (arith, w .1, w .0 .left, l .inv .0, h)) (c .if1 .came)),
+      omega arith,
+    )
 
 returns : tie.Need-returns Inv-loop μ-loop
 returns c =
@@ -49,4 +50,4 @@ returns c =
 pub depth-of-spec : {M : Type 1} → statement M
 depth-of-spec =
     tie.close
-    (tie.spec Inv-loop μ-loop loop-holds mul-height shared-slice-read-height height-requires larger-requires add-c loop-less loop-again returns)
+    (tie.spec Inv-loop μ-loop loop-holds mul-height shared-slice-read-height height-requires add-c loop-less loop-again returns)

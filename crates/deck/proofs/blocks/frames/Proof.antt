@@ -21,15 +21,15 @@ loop-holds : tie.Need-loop-holds Inv-loop μ-loop
 unfolding scan
 loop-holds c = (search needs, refl)
 
-frame-requires : tie.Need-frame-requires Inv-loop μ-loop
-frame-requires c κs = search needs
+block-requires : tie.Need-block-requires Inv-loop μ-loop
+block-requires c κs = search needs
 
 enum-told : tie.Need-enum-told Inv-loop μ-loop
 enum-told c = search needs
 
 returns : tie.Need-returns Inv-loop μ-loop
 returns c = let e = c .enum-told .given .1 in
-    e ∙ sym (scan-bad _ _ _ (omega arith) (c .before .before .before .before .loop .inv .1) (sym (c .before .before .frame .ensures) ∙ e))
+    e ∙ sym (scan-bad _ _ _ (omega arith) (c .before .before .before .before .loop .inv .1) (sym (c .before .before .block .ensures) ∙ e))
 
 enum-told-2 : tie.Need-enum-told-2 Inv-loop μ-loop
 enum-told-2 c = search needs
@@ -41,7 +41,7 @@ loop-less : tie.Need-loop-less Inv-loop μ-loop
 loop-less c = search needs
 
 loop-again : tie.Need-loop-again Inv-loop μ-loop
-loop-again c = (search needs, scan-more _ _ (c .before .before .before .before .loop .inv .1) (sym (c .before .before .frame .ensures) ∙ c .enum-told2 .given .1))
+loop-again c = (search needs, scan-more _ _ (c .before .before .before .before .loop .inv .1) (sym (c .before .before .block .ensures) ∙ c .enum-told2 .given .1))
 
 returns-2 : tie.Need-returns-2 Inv-loop μ-loop
 returns-2 c = sym (c .before .loop .inv .1) ∙ ap (scan _) (le-antisymm (c .before .loop .inv .0) (c .loop-test .left))
@@ -53,7 +53,7 @@ frames-spec =
     Inv-loop
     μ-loop
     loop-holds
-    frame-requires
+    block-requires
     enum-told
     returns
     enum-told-2

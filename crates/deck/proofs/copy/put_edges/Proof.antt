@@ -28,16 +28,10 @@ loop-holds : tie.Need-loop-holds Inv-loop μ-loop
 unfolding tab
 loop-holds c = (search needs, (refl, sym (over-none _)))
 
-edge-value-requires : tie.Need-edge-value-requires Inv-loop μ-loop
-edge-value-requires c κs = let k = c .before .before .before .before in
+put-edge-word-requires : tie.Need-put-edge-word-requires Inv-loop μ-loop
+put-edge-word-requires c κs = let k = c .before .before .before .before .before in
     let s = k .before .before .before in
-    (s .pre .0, (s .pre .1 .0, (k .kinds-of .ensures, (s .pre .1 .1 .0, omega arith))))
-
-mul-edges : tie.Need-mul-edges Inv-loop μ-loop
-mul-edges c = search needs
-
-slice-write-edges : tie.Need-slice-write-edges Inv-loop μ-loop
-slice-write-edges c = search needs
+    (s .pre .0, (s .pre .1 .0, (k .kinds-of .ensures, (s .pre .1 .1 .0, (omega arith, omega arith)))))
 
 add-w : tie.Need-add-w Inv-loop μ-loop
 add-w c = search needs
@@ -46,12 +40,14 @@ loop-less : tie.Need-loop-less Inv-loop μ-loop
 loop-less c = search needs
 
 loop-again : tie.Need-loop-again Inv-loop μ-loop
-loop-again c = let l = c .before .before .before in
+loop-again c = let put = c .before .before .put-edge-word .ensures in
+    let l = c .before .before .before .before .before .before in
     let a = l .before .before .before .before .before .args in (
       search needs,
       (
-        simp length-set (omega arith),
-        rw (l .loop .inv .1 .1, c .edge-value .ensures)
+        rw put (simp length-set (omega arith)),
+        put
+            ∙ rw (l .loop .inv .1 .1)
             (over-more (λ k. edgeWord (a .deck .now) (k / 3) (k % 3)) (l .loop .w) (a .edges .now) (omega arith)),
       ),
     )
@@ -75,9 +71,7 @@ put-edges-spec =
     kinds-of-requires
     mul-n
     loop-holds
-    edge-value-requires
-    mul-edges
-    slice-write-edges
+    put-edge-word-requires
     add-w
     loop-less
     loop-again

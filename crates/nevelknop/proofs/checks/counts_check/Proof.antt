@@ -13,7 +13,7 @@ and-then-requires : tie.Need-and-then-requires
 and-then-requires c κs = search needs
 
 returns : tie.Need-returns
-returns c = cc
+returns c = rw (c .and-then .ensures, c .before .before .records-check .ensures, c .before .limits .ensures)
 
 pub counts-check-spec : {M : Type 1} → statement M
 counts-check-spec =

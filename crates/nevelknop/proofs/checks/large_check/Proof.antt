@@ -21,7 +21,11 @@ and-then-requires-2 c κs = search needs
 
 returns : tie.Need-returns
 unfolding largeCheck
-returns c = cc
+returns c =
+    let must3 = c .before .before .must3 in
+    let must2 = c .before .before .before .must2 in
+    let must = c .before .before .before .before .before .must in
+    rw (c .and-then2 .ensures, must .ensures, c .before .and-then .ensures, must2 .ensures, must3 .ensures)
 
 pub large-check-spec : {M : Type 1} → statement M
 large-check-spec =

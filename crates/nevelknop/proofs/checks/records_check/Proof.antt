@@ -15,7 +15,7 @@ and-then-requires c κs = search needs
 
 returns : tie.Need-returns
 unfolding recordsCheck
-returns c = cc
+returns c = rw (c .and-then .ensures, c .before .before .must .ensures, c .before .must2 .ensures)
 
 pub records-check-spec : {M : Type 1} → statement M
 records-check-spec = tie.close (tie.spec must-requires must-requires-2 and-then-requires returns)

@@ -13,7 +13,7 @@ and-then-requires : tie.Need-and-then-requires
 and-then-requires c κs = search needs
 
 returns : tie.Need-returns
-returns c = cc
+returns c = rw (c .and-then .ensures, c .before .before .check .ensures, c .before .large-check .ensures)
 
 pub words-check-spec : {M : Type 1} → statement M
 words-check-spec =

@@ -48,7 +48,7 @@ returns-2 c =
     let r = c .before .before .before .before .before in
     let w = r .before .before .before .before .before in
     let a = w .before .before .before .before .before .args in
-    let e : ready (a .numbers) (a .rules .now) (a .edges .now) ≡ Good = cc in
+    let e = sym (w .words-check .ensures) ∙ r .before .before .before .enum-told .given .1 in
     let b = r .run-cells .ensures in
     rw (words-good (a .numbers) (a .rules .now) (a .edges .now) _ e, c .run-number .ensures)
     (run-bytes _ (b .t′) (b .ls′) (r .run-cells .result) (λ i. w .before .before .slice-known .given i .fits) (λ i. w .before .slice-known2 .given i .fits) (b .run) (b .packed-table) (b .packed-lengths))

@@ -1,11 +1,12 @@
 -- `nevelknop::walking::witness_lists` meets its contract: the first refusal, or the witness. Assumes nothing.
 use mathlib.Core.Path.{refl, sym, _∙_}
-use native.Mathlib.Omega.{arith}
-use lib.ListN.{length-take}
+use Prim.Native.Nat.{ℕ}
+use lib.ListN.{length-replicate}
+use lib.Seq.{length-take-le}
 use Rattle.nevelknop.specs.Calls.{WitnessBytes}
 use Rattle.nevelknop.proofs.Orders.{words-good, words-bad}
 use Rattle.nevelknop.proofs.Places.{low-words}
-use Rattle.nevelknop.proofs.Lent.{cells-front}
+use Rattle.nevelknop.proofs.Lent.{cells-within, cells-front}
 use borrow.Author.Needs.{needs}
 use Rattle.nevelknop.proofs.walking.witness_lists.Statement.{statement}
 use Rattle.nevelknop.proofs.walking.witness_lists.Tie as tie
@@ -35,34 +36,40 @@ shorter-requires-2 : tie.Need-shorter-requires-2
 shorter-requires-2 c κs = search needs
 
 slice-aggregate-unpack64 : tie.Need-slice-aggregate-unpack64
-slice-aggregate-unpack64 c = search needs
+slice-aggregate-unpack64 c = sym (length-replicate {A = ℕ} 2048 0)
 
 unpack64-requires : tie.Need-unpack64-requires
 unpack64-requires c κs = search needs
 
 slice-aggregate-unpack32 : tie.Need-slice-aggregate-unpack32
-slice-aggregate-unpack32 c = search needs
+slice-aggregate-unpack32 c = sym (length-replicate {A = ℕ} 2048 0)
 
 unpack32-requires : tie.Need-unpack32-requires
 unpack32-requires c κs = search needs
 
 array-share-prefix-t : tie.Need-array-share-prefix-t
-array-share-prefix-t c = search needs
+array-share-prefix-t c =
+    let t = c .before .before .before .before in
+    let n = t .before .before .before in
+    cells-within _ (n .shorter .ensures) (t .unpack64 .kept .1 .0)
 
 slice-aggregate-witness-words : tie.Need-slice-aggregate-witness-words
-slice-aggregate-witness-words c = simp length-take (omega (arith, c .before .before .before .before .before .unpack64 .kept .1 .0))
+slice-aggregate-witness-words c = sym (length-take-le _ _ (array-share-prefix-t (c .before)))
 
 array-share-prefix-l : tie.Need-array-share-prefix-l
-array-share-prefix-l c = search needs
+array-share-prefix-l c =
+    let l = c .before .before in
+    let s = l .before .before .before .before .before in
+    cells-within _ (s .shorter2 .ensures) (l .unpack32 .kept .1 .0)
 
 slice-aggregate-witness-words-2 : tie.Need-slice-aggregate-witness-words-2
-slice-aggregate-witness-words-2 c = simp length-take (omega (arith, c .before .before .before .unpack32 .kept .1 .0))
+slice-aggregate-witness-words-2 c = sym (length-take-le _ _ (array-share-prefix-l (c .before)))
 
 witness-words-requires : tie.Need-witness-words-requires
 witness-words-requires c κs = search needs
 
 same-length : tie.Need-same-length
-same-length c = search needs
+same-length c = c .before .before .witness-words .kept .1 .1 .1 .1 .1 .1 .1 .1 .0
 
 returns-2 : tie.Need-returns-2
 returns-2 c =

@@ -1,17 +1,18 @@
 -- `nevelknop::walking::write_window` meets its contract: the window, packed behind the edges before it. Assumes nothing.
 use mathlib.Core.Path.{sym, _∙_}
-use Prim.Native.Nat.{_*_}
-use native.Mathlib.Omega.{arith}
+use Prim.Native.Nat.{ℕ, _*_}
+use lib.ListN.{length-replicate}
 use lib.Seq.{length-take-le}
 use Rattle.words.proofs.Refusals.{good-bad}
 use Rattle.witness.proofs.Writes.{window-sane}
+use Rattle.nevelknop.proofs.Lent.{within}
 use Rattle.nevelknop.proofs.Windows.{put-rest, rest-of, answer-bad, answer-short, one-window}
 use borrow.Author.Needs.{needs}
 use Rattle.nevelknop.proofs.walking.write_window.Statement.{statement}
 use Rattle.nevelknop.proofs.walking.write_window.Tie as tie
 
 slice-aggregate-window : tie.Need-slice-aggregate-window
-slice-aggregate-window c = search needs
+slice-aggregate-window c = sym (length-replicate {A = ℕ} 16384 0)
 
 window-requires : tie.Need-window-requires
 window-requires c κs = search needs
@@ -26,7 +27,7 @@ array-share-prefix-part : tie.Need-array-share-prefix-part
 array-share-prefix-part c =
     let w = c .before .before .before .before in
     let h = answer-short (w .before .before .before .before .before .before .before .args .from) 16384 (rw (c .before .answer .given .1) at (w .window .ensures)) in
-    omega (arith, h, w .window .kept .1 .1 .1 .1 .1 .1 .1 .1 .1 .0)
+    within h (w .window .kept .1 .1 .1 .1 .1 .1 .1 .1 .1 .0)
 
 slice-aggregate-pack16 : tie.Need-slice-aggregate-pack16
 slice-aggregate-pack16 c = sym (length-take-le _ _ (array-share-prefix-part (c .before)))

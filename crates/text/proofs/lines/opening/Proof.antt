@@ -1,61 +1,48 @@
 -- `text::lines::opening` meets its contract. Assumes nothing.
-use native.Mathlib.Omega.{arith}
-use Rattle.text.specs.Text.{ascii, openingLine}
-use Rattle.text.proofs.Pens.{penned-more}
-use borrow.Author.Needs.{needs}
+use mathlib.Core.Path.{refl}
+use mathlib.Core.List.{_++_}
+use borrow.Author.Tests.{leb-true}
+use Rattle.text.specs.Text.{ascii, decimal, labelled, openingLine}
+use Rattle.text.proofs.Pens.{penned-more, penned-same-length, penned-two, room-first, room-next, end-two}
 use Rattle.text.proofs.lines.opening.Statement.{statement}
 use Rattle.text.proofs.lines.opening.Tie as tie
 
-slice-aggregate-labelled : tie.Need-slice-aggregate-labelled
-slice-aggregate-labelled c = search needs
+slice-aggregate-row : tie.Need-slice-aggregate-row
+slice-aggregate-row c = refl
 
-labelled-requires : tie.Need-labelled-requires
-labelled-requires c κs = search needs
+slice-aggregate-row-2 : tie.Need-slice-aggregate-row-2
+slice-aggregate-row-2 c = refl
 
-slice-aggregate-labelled-2 : tie.Need-slice-aggregate-labelled-2
-slice-aggregate-labelled-2 c = search needs
+slice-aggregate-row-3 : tie.Need-slice-aggregate-row-3
+slice-aggregate-row-3 c = refl
 
-labelled-requires-2 : tie.Need-labelled-requires-2
-labelled-requires-2 c κs = search needs
+row-requires : tie.Need-row-requires
+row-requires c κs = room-first _ (c .before .before .before .before .before .pre) (leb-true _ 5000 refl)
 
-slice-aggregate-labelled-3 : tie.Need-slice-aggregate-labelled-3
-slice-aggregate-labelled-3 c = search needs
+slice-aggregate-row-4 : tie.Need-slice-aggregate-row-4
+slice-aggregate-row-4 c = refl
 
-labelled-requires-3 : tie.Need-labelled-requires-3
-labelled-requires-3 c κs = search needs
+slice-aggregate-row-5 : tie.Need-slice-aggregate-row-5
+slice-aggregate-row-5 c = refl
 
-slice-aggregate-labelled-4 : tie.Need-slice-aggregate-labelled-4
-slice-aggregate-labelled-4 c = search needs
+slice-aggregate-row-6 : tie.Need-slice-aggregate-row-6
+slice-aggregate-row-6 c = refl
 
-labelled-requires-4 : tie.Need-labelled-requires-4
-labelled-requires-4 c κs = search needs
-
-slice-aggregate-letters : tie.Need-slice-aggregate-letters
-slice-aggregate-letters c = search needs
-
-letters-requires : tie.Need-letters-requires
-letters-requires c κs = search needs
+row-requires-2 : tie.Need-row-requires-2
+row-requires-2 c κs = room-next _ _ (c .before .before .before .before .before .before .before .before .before .before .before .before .pre) (c .before .before .before .before .before .before .row .ensures .1) (leb-true _ 5000 refl)
 
 same-length : tie.Need-same-length
-same-length c = search needs
+same-length c = penned-same-length (penned-more (c .before .before .before .before .before .before .before .before .before .row .ensures .0) (c .before .before .row2 .ensures .0))
 
 returns : tie.Need-returns
 unfolding ascii openingLine
-returns c = (penned-more (penned-more (penned-more (penned-more (c .before .before .before .before .before .before .before .before .before .before .before .before .before .before .before .before .before .before .before .before .before .before .labelled .ensures .0) (c .before .before .before .before .before .before .before .before .before .before .before .before .before .before .before .before .before .labelled2 .ensures .0)) (c .before .before .before .before .before .before .before .before .before .before .before .before .labelled3 .ensures .0)) (c .before .before .before .before .before .before .before .labelled4 .ensures .0)) (c .before .before .letters .ensures), omega (arith, c .before .before .letters .ensures .end, c .before .before .before .before .before .before .before .labelled4 .ensures .1))
+returns c =
+    let a = c .before .before .before .before .before .before .before .before .before .before .before .before .before .before .before .args in
+    let one = c .before .before .before .before .before .before .before .before .before .row .ensures in
+    let two = c .before .before .row2 .ensures in (
+      penned-two (labelled "graph " (a .nodes) ++ labelled " nodes " (a .edges)) (ascii " edges") (ascii " ") (decimal (a .nonterminals)) (labelled " nonterminals " (a .rules)) (ascii " rules\n") (one .0) (two .0),
+      end-two (a .at) _ _ 200 (one .1) (two .1) (leb-true _ 200 refl),
+    )
 
 pub opening-spec : {M : Type 1} → statement M
-opening-spec =
-    tie.close
-    (tie.spec
-    slice-aggregate-labelled
-    labelled-requires
-    slice-aggregate-labelled-2
-    labelled-requires-2
-    slice-aggregate-labelled-3
-    labelled-requires-3
-    slice-aggregate-labelled-4
-    labelled-requires-4
-    slice-aggregate-letters
-    letters-requires
-    same-length
-    returns)
+opening-spec = tie.close (tie.spec slice-aggregate-row slice-aggregate-row-2 slice-aggregate-row-3 row-requires slice-aggregate-row-4 slice-aggregate-row-5 slice-aggregate-row-6 row-requires-2 same-length returns)

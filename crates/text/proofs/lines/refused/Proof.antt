@@ -1,45 +1,31 @@
 -- `text::lines::refused` meets its contract. Assumes nothing.
-use native.Mathlib.Omega.{arith}
+use mathlib.Core.Path.{refl}
+use borrow.Author.Tests.{leb-true}
 use Rattle.text.specs.Text.{ascii, refusedLine}
-use Rattle.text.proofs.Pens.{penned-more}
-use borrow.Author.Needs.{needs}
+use Rattle.text.proofs.Pens.{room-first, end-one}
 use Rattle.text.proofs.lines.refused.Statement.{statement}
 use Rattle.text.proofs.lines.refused.Tie as tie
 
-slice-aggregate-labelled : tie.Need-slice-aggregate-labelled
-slice-aggregate-labelled c = search needs
+slice-aggregate-row : tie.Need-slice-aggregate-row
+slice-aggregate-row c = refl
 
-labelled-requires : tie.Need-labelled-requires
-labelled-requires c κs = search needs
+slice-aggregate-row-2 : tie.Need-slice-aggregate-row-2
+slice-aggregate-row-2 c = refl
 
-slice-aggregate-labelled-2 : tie.Need-slice-aggregate-labelled-2
-slice-aggregate-labelled-2 c = search needs
+slice-aggregate-row-3 : tie.Need-slice-aggregate-row-3
+slice-aggregate-row-3 c = refl
 
-labelled-requires-2 : tie.Need-labelled-requires-2
-labelled-requires-2 c κs = search needs
-
-slice-aggregate-letters : tie.Need-slice-aggregate-letters
-slice-aggregate-letters c = search needs
-
-letters-requires : tie.Need-letters-requires
-letters-requires c κs = search needs
+row-requires : tie.Need-row-requires
+row-requires c κs = room-first _ (c .before .before .before .before .before .pre) (leb-true _ 5000 refl)
 
 same-length : tie.Need-same-length
-same-length c = search needs
+same-length c = c .before .before .row .kept .0
 
 returns : tie.Need-returns
 unfolding ascii refusedLine
-returns c = (penned-more (penned-more (c .before .before .before .before .before .before .before .before .before .before .before .before .labelled .ensures .0) (c .before .before .before .before .before .before .before .labelled2 .ensures .0)) (c .before .before .letters .ensures), omega (arith, c .before .before .letters .ensures .end, c .before .before .before .before .before .before .before .labelled2 .ensures .1))
+returns c =
+    let row = c .before .before .row .ensures in
+    (row .0, end-one (c .before .before .before .before .before .before .before .before .args .at) _ 200 (row .1) (leb-true _ 200 refl))
 
 pub refused-spec : {M : Type 1} → statement M
-refused-spec =
-    tie.close
-    (tie.spec
-    slice-aggregate-labelled
-    labelled-requires
-    slice-aggregate-labelled-2
-    labelled-requires-2
-    slice-aggregate-letters
-    letters-requires
-    same-length
-    returns)
+refused-spec = tie.close (tie.spec slice-aggregate-row slice-aggregate-row-2 slice-aggregate-row-3 row-requires same-length returns)

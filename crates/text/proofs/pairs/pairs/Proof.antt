@@ -2,14 +2,13 @@
 use Prim.Native.Nat.{_+_, _*_, _-_, _≤_}
 use native.Mathlib.Omega.{arith}
 use mathlib.Core.Logic.{⊎-elim}
-use mathlib.Core.Path.{_≡_}
+use mathlib.Core.Path.{_≡_, sym, ap, _∙_}
 use borrow.Author.Needs.{needs}
 use Rattle.lists.specs.Lists.{net}
-use Rattle.lists.proofs.Right.{accepted}
 use Rattle.text.specs.Pen.{LinesPenned}
 use Rattle.text.proofs.Counted.{nodes-in}
 use Rattle.text.proofs.Pens.{penned-same-length}
-use Rattle.text.proofs.Lined.{cell-behind, behind-filled, ready-behind, ready-few, lines-few, lines-none, lines-empty, lines-more}
+use Rattle.text.proofs.Lined.{cell-behind, behind-filled, ready-behind, ready-nodes, ready-head, ready-few, lines-few, lines-none, lines-empty, lines-more}
 use Rattle.text.proofs.pairs.pairs.Statement.{statement}
 use Rattle.text.proofs.pairs.pairs.Tie as tie
 
@@ -21,12 +20,10 @@ abbrev μ-loop : tie.MeasureT-loop
 μ-loop text₀ at numbers rules edges a table lengths n first to₀ pairs₀ c₀ text to pairs c = n * n - c
 
 cast-cell : tie.Need-cast-cell Inv-loop μ-loop
-cast-cell c = omega (arith, c .before .before .before .before .before .pre .1 .nodes)
+cast-cell c = record { fits = ready-nodes (c .before .before .before .before .before .pre .1) }
 
 cast-cell-2 : tie.Need-cast-cell-2 Inv-loop μ-loop
-cast-cell-2 c =
-    let r = c .before .before .before .before .before .pre .1 in
-    omega (arith, r .head, accepted _ _ _ (r .lists) .nonterminals .high)
+cast-cell-2 c = record { fits = ready-head (c .before .before .before .before .before .pre .1) }
 
 cell-requires : tie.Need-cell-requires Inv-loop μ-loop
 cell-requires c κs = search needs
@@ -37,8 +34,8 @@ loop-holds c = (omega arith, lines-none _ _ _ _ _ _)
 mul-loop : tie.Need-mul-loop Inv-loop μ-loop
 mul-loop c = omega (arith, ready-few (c .before .before .before .before .before .before .before .pre .1))
 
-add-if1 : tie.Need-add-if1 Inv-loop μ-loop
-add-if1 c =
+add-k : tie.Need-add-k Inv-loop μ-loop
+add-k c =
     let b = ready-behind (c .before .before .before .before .before .before .before .before .pre .1) (c .before .loop .c) (omega arith) in
     omega (arith, b .few, c .before .before .cell .ensures)
 
@@ -72,14 +69,17 @@ line-requires c κs =
       omega (arith, v .inv .1 .room, ready-few (p .1)),
       (
         p .1,
-        record {
-          from = h .0;
-          to = h .1;
-          filled =
-              rw (cell-behind (a .numbers .nodes) (a .a) (v .c))
-              (behind-filled (a .numbers .nodes) (a .a) (v .c) f (a .table .now) (c .before .before .before .before .before .cell .ensures) (c .before .if1 .taken)
-              (omega (arith, c .before .before .shared-slice-known5 .given (f + v .c))));
-        },
+        (
+          record {
+            from = h .0;
+            to = h .1;
+            filled =
+                rw (cell-behind (a .numbers .nodes) (a .a) (v .c))
+                (behind-filled (a .numbers .nodes) (a .a) (v .c) f (a .table .now) (c .before .before .before .before .before .cell .ensures) (c .before .if1 .taken)
+                (omega (arith, c .before .before .shared-slice-known5 .given (f + v .c))));
+          },
+          ap (λ x. x + v .c) (c .before .before .before .before .before .cell .ensures) ∙ sym (cell-behind (a .numbers .nodes) (a .a) (v .c)),
+        ),
       ),
     )
 
@@ -129,7 +129,7 @@ pairs-spec =
     cell-requires
     loop-holds
     mul-loop
-    add-if1
+    add-k
     mul-if1
     shared-slice-read-if1
     div-line

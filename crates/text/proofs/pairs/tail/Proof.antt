@@ -1,14 +1,17 @@
 -- `text::pairs::tail` meets its contract. Assumes nothing.
-use mathlib.Core.Path.{sym}
-use native.Mathlib.Omega.{arith}
+use mathlib.Core.Path.{refl, sym}
+use native.Mathlib.Nat.{le-trans, le-of-eq}
+use borrow.Author.Tests.{leb-true}
 use borrow.Author.Needs.{needs}
 use Rattle.text.specs.Text.{ascii}
-use Rattle.text.proofs.Tails.{tail-shown, tail-long}
+use Rattle.text.specs.Pairs.{Tail}
+use Rattle.text.proofs.Pens.{end-one}
+use Rattle.text.proofs.Tails.{tail-shown, tail-long, path-room, letters-room}
 use Rattle.text.proofs.pairs.tail.Statement.{statement}
 use Rattle.text.proofs.pairs.tail.Tie as tie
 
 slice-aggregate-witness : tie.Need-slice-aggregate-witness
-slice-aggregate-witness c = search needs
+slice-aggregate-witness c = refl
 
 witness-requires : tie.Need-witness-requires
 witness-requires c κs = search needs
@@ -19,20 +22,20 @@ enum-known-found c = search needs
 array-share-prefix-room : tie.Need-array-share-prefix-room
 array-share-prefix-room c =
     let a = c .before .before .before .before .before .before .before .before .before .before .before .before .args in
-    let s = tail-shown (a .numbers) (a .rules .now) (a .edges .now) (a .table .now) (a .lengths .now) (a .a) (a .i) (a .j) (search needs) (c .before .before .found .given .1) (c .before .before .before .before .before .witness .ensures) in
-    omega (arith, s .few, s .long)
+    let s = tail-shown (a .numbers) (a .rules .now) (a .edges .now) (a .table .now) (a .lengths .now) (a .a) (a .i) (a .j) (leb-true _ 1024 refl) (c .before .before .found .given .1) (c .before .before .before .before .before .witness .ensures) in
+    s .fits
 
 slice-aggregate-path : tie.Need-slice-aggregate-path
 slice-aggregate-path c =
     let a = c .before .before .before .before .before .before .before .before .before .before .before .before .before .args in
-    let s = tail-shown (a .numbers) (a .rules .now) (a .edges .now) (a .table .now) (a .lengths .now) (a .a) (a .i) (a .j) (search needs) (c .before .before .before .found .given .1) (c .before .before .before .before .before .before .witness .ensures) in
+    let s = tail-shown (a .numbers) (a .rules .now) (a .edges .now) (a .table .now) (a .lengths .now) (a .a) (a .i) (a .j) (leb-true _ 1024 refl) (c .before .before .before .found .given .1) (c .before .before .before .before .before .before .witness .ensures) in
     sym (s .count)
 
 path-requires : tie.Need-path-requires
 path-requires c κs =
     let a = c .before .before .before .before .before .before .before .before .before .before .before .before .before .args in
-    let s = tail-shown (a .numbers) (a .rules .now) (a .edges .now) (a .table .now) (a .lengths .now) (a .a) (a .i) (a .j) (search needs) (c .before .before .before .found .given .1) (c .before .before .before .before .before .before .witness .ensures) in
-    (omega arith, omega (arith, s .few, s .count))
+    let s = tail-shown (a .numbers) (a .rules .now) (a .edges .now) (a .table .now) (a .lengths .now) (a .a) (a .i) (a .j) (leb-true _ 1024 refl) (c .before .before .before .found .given .1) (c .before .before .before .before .before .before .witness .ensures) in
+    (c .before .before .before .before .before .before .before .before .before .before .before .before .before .pre .0, le-trans (s .few) (leb-true 1024 65536 refl))
 
 enum-told : tie.Need-enum-told
 enum-told c = search needs
@@ -41,20 +44,20 @@ slice-aggregate-letters : tie.Need-slice-aggregate-letters
 slice-aggregate-letters c = search needs
 
 letters-requires : tie.Need-letters-requires
-letters-requires c κs = search needs
+letters-requires c κs = letters-room (c .before .before .before .before .before .before .before .before .before .before .before .before .pre .0)
 
 same-length : tie.Need-same-length
-same-length c = search needs
+same-length c = c .before .before .path .kept .0
 
 returns : tie.Need-returns
 returns c =
     let a = c .before .before .before .before .before .before .before .before .before .before .before .before .before .before .before .before .args in
-    let s = tail-shown (a .numbers) (a .rules .now) (a .edges .now) (a .table .now) (a .lengths .now) (a .a) (a .i) (a .j) (search needs) (c .before .before .before .before .before .before .found .given .1) (c .before .before .before .before .before .before .before .before .before .witness .ensures) in
+    let s = tail-shown (a .numbers) (a .rules .now) (a .edges .now) (a .table .now) (a .lengths .now) (a .a) (a .i) (a .j) (leb-true _ 1024 refl) (c .before .before .before .before .before .before .found .given .1) (c .before .before .before .before .before .before .before .before .before .witness .ensures) in
     let p = c .before .before .path .ensures in
-    record { tail = _; of = s .tail; penned = p .0; room = omega (arith, p .1, s .few, s .count) }
+    record { tail = _; of = s .tail; penned = p .0; room = path-room (a .at) _ (p .1) (s .few) }
 
 same-length-2 : tie.Need-same-length-2
-same-length-2 c = search needs
+same-length-2 c = c .before .before .letters .kept .0
 
 returns-2 : tie.Need-returns-2
 unfolding ascii
@@ -64,9 +67,9 @@ returns-2 c =
     let p = c .before .before .letters .ensures in
     record {
       tail = _;
-      of = tail-long (a .numbers) (a .rules .now) (a .edges .now) (a .table .now) (a .lengths .now) (a .a) (a .i) (a .j) (search needs) (c .before .before .before .before .before .enum-told .given .1) (b .pre .1 .0) (b .pre .1 .1) (c .before .before .before .before .before .before .before .before .witness .ensures);
+      of = Tail.long (tail-long (a .numbers) (a .rules .now) (a .edges .now) (a .table .now) (a .lengths .now) (a .a) (a .i) (a .j) (leb-true _ 1024 refl) (c .before .before .before .before .before .enum-told .given .1) (b .pre .1 .0) (b .pre .1 .1) (c .before .before .before .before .before .before .before .before .witness .ensures));
       penned = p;
-      room = omega (arith, p .end);
+      room = end-one (a .at) 5 6144 (le-of-eq (p .end)) (leb-true 5 6144 refl);
     }
 
 pub tail-spec : {M : Type 1} → statement M
