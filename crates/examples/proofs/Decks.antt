@@ -13,7 +13,7 @@ use Rattle.words.specs.declared.Check.the-variants.{Good}
 use Rattle.words.proofs.Refusals.{and-stop, and-next, scan-good}
 use Rattle.lists.specs.Lists.{inLimits, rightRule, roomCheck}
 use Rattle.deck.specs.Blocks.{blocks, sumAt, rightSum, rightOrder, total, firstOf, recordAt}
-use Rattle.deck.specs.Reads.{headerOf, sizeCheck, frameCheck, headerCheck, fillCheck, totalsCheck, entryCheck, ruleRecordCheck, entryOf, edgeRecordCheck, deckCheck, readCheck, rulesOf, edgesOf}
+use Rattle.deck.specs.Reads.{sizeCheck, frameCheck, headerCheck, fillCheck, totalsCheck, entryCheck, ruleRecordCheck, entryOf, edgeRecordCheck, deckCheck, readCheck, rulesOf, edgesOf}
 use Rattle.deck.specs.Stages.{recordsCheck}
 use Rattle.examples.specs.Examples.{S, deckEdges, block, deck, report, unmapped, Holds, reading, refusal}
 

@@ -2,7 +2,7 @@
 -- three. The fourth, a label for an unmapped kind, is example i. Assumes nothing.
 use mathlib.Core.List.{List, [], _∷_}
 use mathlib.Core.Bool.{cond}
-use Prim.Native.Nat.{ℕ, suc, min}
+use Prim.Native.Nat.{ℕ, min}
 use lib.ListN.{getD, set}
 use lib.Dec.{eqb}
 use Rattle.key.specs.Keys.{EMPTY, key, middleOf, ruleOf}

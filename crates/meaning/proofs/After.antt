@@ -2,19 +2,17 @@
 -- Assumes nothing.
 use mathlib.Core.Path.{_≡_, refl, _∙_}
 use mathlib.Core.List.{List, [], _∷_, _++_}
-use mathlib.Core.Bool.{Bool, true, false, _||_}
+use mathlib.Core.Bool.{Bool, true, false}
 use Prim.Native.Nat.{ℕ, zero, suc, _+_, _≤_, _<_}
 use native.Mathlib.Omega.{arith}
 use native.Mathlib.Nat.{le-refl}
-use native.Mathlib.Numerals.{add-one}
 use lib.ListN.{length, getD}
 use Rattle.key.specs.Keys.{EMPTY}
 use Rattle.meaning.specs.Net.{Net, Sane}
-use Rattle.meaning.specs.Table.{cell, cells, total, SoundTable, HoldsLeaves, High}
+use Rattle.meaning.specs.Table.{cell, SoundTable, HoldsLeaves, High}
 use Rattle.meaning.specs.Steps.{Step, Possible, targetOf, leftOf, offer, step, wins, after, All}
 use Rattle.meaning.specs.Passes.{each, changes}
-use Rattle.meaning.proofs.Sums.{total-falls, total-less}
-use Rattle.meaning.proofs.Steps.{step-length, step-falls, step-target, step-keeps, wins-true, wins-false, keeps-wins, offer-left, target-in, step-sound, step-high}
+use Rattle.meaning.proofs.Steps.{step-length, step-falls, step-keeps, wins-false, keeps-wins, offer-left, step-sound, step-high}
 
 module _ (P : Step → Type 0) where
   pub all-append : (ss ss′ : List Step) → All P ss → All P ss′ → All P (ss ++ ss′)
@@ -29,22 +27,6 @@ module _ (n : ℕ) where
   pub after-append : (t : List ℕ) (ss ss′ : List Step) → after n t (ss ++ ss′) ≡ after n (after n t ss) ss′
   after-append t [] ss′ = refl
   after-append t (s ∷ ss) ss′ = after-append (step n t s) ss ss′
-
-  pub changes-append : (t : List ℕ) (ss ss′ : List Step) → changes n t (ss ++ ss′) ≡ (changes n t ss || changes n (after n t ss) ss′)
-  changes-append t [] ss′ = refl
-  changes-append t (s ∷ ss) ss′ = rw (changes-append (step n t s) ss ss′) (go (wins n t s) _ _)
-    where
-      go : (a b c : Bool) → (a || (b || c)) ≡ (a || b || c)
-      go true b c = refl
-      go false b c = refl
-
-  -- one round more of a loop
-  pub after-each : (t : List ℕ) (f : ℕ → List Step) (c : ℕ) → after n t (each (c + 1) f) ≡ after n (after n t (each c f)) (f c)
-  after-each t f c = rw add-one (after-append t (each c f) (f c))
-
-  pub changes-each : (t : List ℕ) (f : ℕ → List Step) (c : ℕ)
-      → changes n t (each (c + 1) f) ≡ (changes n t (each c f) || changes n (after n t (each c f)) (f c))
-  changes-each t f c = rw add-one (changes-append t (each c f) (f c))
 
   pub after-length : (t : List ℕ) (ss : List Step) → length (after n t ss) ≡ length t
   after-length t [] = refl
@@ -80,29 +62,6 @@ module _ {g : Net} (ok : Sane g) where
   after-high t [] can sound high = high
   after-high t (s ∷ ss) can sound high =
       after-high (step (g .nodes) t s) ss (can .1) (step-sound ok s (can .0) t sound) (step-high ok s (can .0) t sound high)
-
-  -- the measure of a run of passes: where a step changes the table, the total of its cells falls
-  pub changes-some : (t : List ℕ) (ss : List Step) → All (Possible g) ss → cells g ≤ length t → changes (g .nodes) t ss ≡ true
-      → total (after (g .nodes) t ss) (cells g) < total t (cells g)
-  changes-some t [] can long e = let z : _≡_ {A = ℕ} 0 1 = cc in absurd (omega arith)
-  changes-some t (s ∷ ss) can long e = go (wins n t s) refl (changes-some t′ ss (can .1) (rw (step-length n t s) long))
-    where
-      n : ℕ
-      n = g .nodes
-
-      c : ℕ
-      c = cells g
-
-      t′ : List ℕ
-      t′ = step n t s
-
-      go : (b : Bool) → wins n t s ≡ b → (changes n t′ ss ≡ true → total (after n t′ ss) c < total t′ c) → total (after n t′ ss) c < total t c
-      go true w ih =
-          let l = target-in ok s (can .0) in
-          let now = step-target n t s (omega arith) in
-          let less = total-less t t′ (step-falls n t s) (targetOf n s) (omega (arith, wins-true n t s w)) c l in
-          omega (arith, total-falls t′ (after n t′ ss) (after-falls n t′ ss) c)
-      go false w ih = omega (arith, ih (rw w at e), total-falls t t′ (step-falls n t s) c)
 
 pub after-leaves : {g : Net} (t : List ℕ) (ss : List Step) → HoldsLeaves g t → HoldsLeaves g (after (g .nodes) t ss)
 after-leaves {g} t ss holds = record {

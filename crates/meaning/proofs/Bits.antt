@@ -1,9 +1,9 @@
 -- Bits of a word, as rows hold them: of an or, of a power of two, and that the bits make the word. Assumes nothing.
 use mathlib.Core.Path.{_≡_, refl, sym, ap, _∙_}
 use mathlib.Core.Logic.{_≢_}
-use Prim.Native.Nat.{ℕ, zero, suc, _/_, _%_, _^_, _≤_, _<_, max}
+use Prim.Native.Nat.{ℕ, zero, suc, _/_, _%_, _^_, _<_, max}
 use native.Mathlib.Omega.{arith}
-use native.Mathlib.Nat.{pow-succ', div-div-eq-div-mul, div-eq-of-lt, one-le-pow, pow-le-pow-right}
+use native.Mathlib.Nat.{pow-succ', div-div-eq-div-mul, div-eq-of-lt, one-le-pow}
 use lib.Bits.{bitOr, or-shr, or-step}
 use Rattle.meaning.specs.Rows.{bit}
 
@@ -19,10 +19,6 @@ bit-low w = omega arith
 
 pub bit-next : (w j : ℕ) → bit w (suc j) ≡ bit (w / 2) j
 bit-next w j = rw (pow-succ' 2 j, div-div-eq-div-mul w 2 (2 ^ j)) refl
-
--- from the first bit past a bound of the word on, every bit is clear
-pub bit-past : (w n j : ℕ) → w < 2 ^ n → n ≤ j → bit w j ≡ 0
-bit-past w n j h l = omega (arith, div-eq-of-lt {n = w} {m = 2 ^ j} (omega (arith, pow-le-pow-right {n = 2} (omega arith) l)))
 
 power-half : (j : ℕ) → 2 ^ suc j / 2 ≡ 2 ^ j
 power-half j = omega (arith, pow-succ' 2 j)
@@ -51,10 +47,3 @@ bits-same (suc n) v w hv hw e =
       bits-same n (v / 2) (w / 2)
           (omega (arith, pow-succ' 2 n)) (omega (arith, pow-succ' 2 n)) (λ j l. sym (bit-next v j) ∙ e (suc j) (omega arith) ∙ bit-next w j),
     )
-
--- a word with bit j set by an or
-pub bit-set : (w j : ℕ) → bit (bitOr w (2 ^ j)) j ≡ 1
-bit-set w j = omega (arith, bit-or w (2 ^ j) j, bit-power j)
-
-pub bit-set-other : (w j k : ℕ) → k ≢ j → bit (bitOr w (2 ^ j)) k ≡ bit w k
-bit-set-other w j k n = omega (arith, bit-or w (2 ^ j) k, bit-power-other j k n)

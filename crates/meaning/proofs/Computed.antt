@@ -5,7 +5,7 @@ use mathlib.Core.Bool.{true, false, not, _&&_}
 use mathlib.Core.Logic.{_≢_, _⊎_, inl, inr}
 use Prim.Native.Nat.{ℕ, zero, suc, _*_, _/_, _%_, _≤_, _<_}
 use native.Mathlib.Omega.{arith}
-use lib.ListN.{length, drop, length-append}
+use lib.ListN.{length, length-append}
 use lib.Dec.{eqb, ltb}
 use borrow.Author.Tests.{ltb-true, ltb-false, lt-ltb, eqb-true, eqb-false, eq-eqb, ne-eqb, not-true}
 use borrow.Table.Steps.{cases}
@@ -16,11 +16,10 @@ use Rattle.words.proofs.First.{first-here, first-lowest}
 use Rattle.words.proofs.Tab.{length-tab, getD-tab}
 use Rattle.meaning.specs.Net.{Net, Sane, netOf, Edge, PairRule, LabelRule, word}
 use Rattle.meaning.specs.Trees.{joined}
-use Rattle.meaning.specs.Table.{at, cells, LeafKey, StartCell, StartTable}
+use Rattle.meaning.specs.Table.{at, LeafKey, StartCell, StartTable}
 use Rattle.meaning.specs.Lengths.{RightCell, Recorded}
 use Rattle.meaning.specs.Computed.{lowestEdge, isPair, isLeaf, leafWord, startWord, startTable, rightSides, rightWord, rightCell, pathOf}
 use Rattle.meaning.proofs.Cells.{numbers-cells}
-use Rattle.meaning.proofs.Fronts.{tables-same}
 use Rattle.meaning.proofs.Start.{leaf-low}
 use Rattle.meaning.proofs.Edges.{and-both, found-lowest, lowest-found, lowest-one}
 
@@ -106,9 +105,6 @@ module _ {g : Net} (ok : Sane g) where
       go (inl e) (inr b) = absurd (omega (arith, x .least w b, leaf-low ok b .0))
       go (inr a) (inl d) = absurd (omega (arith, y .least v a, leaf-low ok a .0))
       go (inr a) (inr b) = omega (arith, x .least w b, y .least v a)
-
-  pub start-lists : (t t′ : List ℕ) → StartTable g t → StartTable g t′ → drop (cells g) t ≡ drop (cells g) t′ → t ≡ t′
-  start-lists t t′ x y = tables-same g t t′ (x .long) (y .long) (λ A i j hA hi hj. start-one (x .cell A i j hA hi hj) (y .cell A i j hA hi hj))
 
 -- the computed check accepts exactly the right cells
 module _ (n m : ℕ) (rules edges t ls : List ℕ) (A i j : ℕ) where

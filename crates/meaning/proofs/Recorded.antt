@@ -1,7 +1,7 @@
 -- The path that an accepted table records: there is one and only one, it is a real path of the recorded height and length,
 -- and it is at least as long as its height. Assumes nothing.
 use mathlib.Core.Path.{_≡_, sym, ap, ap₂, _∙_}
-use mathlib.Core.List.{List, [], _∷_, _++_}
+use mathlib.Core.List.{List, [], _∷_}
 use mathlib.Core.Logic.{_≢_, _⊎_, inl, inr, ⊎-elim}
 use Prim.Native.Nat.{ℕ, zero, suc, _+_, _≤_, _<_, min}
 use native.Mathlib.Omega.{arith}
@@ -43,11 +43,6 @@ recorded-filled : {g : Net} → Sane g → {t : List ℕ} {A i j : ℕ} {p : Lis
 recorded-filled ok way (inr l) = l
 recorded-filled ok (Recorded.leaf h l d) (inl e) = absurd (omega arith)
 recorded-filled ok (Recorded.pair {A} {B} {C} n p m u v) (inl e) = absurd (omega (arith, ok .pairs _ A B C p .rule, ok .rules))
-
--- a sum that is not held is the sum
-pub held-below : (a b : ℕ) → heldSum a b < HELD → heldSum a b ≡ a + b
-unfolding heldSum
-held-below a b h = omega arith
 
 held-sum : (a b : ℕ) → heldSum (min HELD a) (min HELD b) ≡ min HELD (a + b)
 unfolding heldSum

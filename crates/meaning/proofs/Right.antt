@@ -1,7 +1,6 @@
 -- What the run leaves is what the table check accepts: a final table with its lengths is a right table. Assumes nothing.
-use mathlib.Core.Path.{_≡_, sym, ap, _∙_}
+use mathlib.Core.Path.{_≡_, ap, _∙_}
 use mathlib.Core.List.{List}
-use mathlib.Core.Logic.{_⊎_, inl, inr}
 use Prim.Native.Nat.{ℕ, _≤_, _<_}
 use native.Mathlib.Omega.{arith}
 use Rattle.key.specs.Keys.{EMPTY, key, heightOf, middleOf, ruleOf}
@@ -14,7 +13,7 @@ use Rattle.meaning.specs.Lengths.{LengthCell, none, one, sum, Lengths, R
 use Rattle.meaning.proofs.Joined.{joined-left, joined-right, joined-mono}
 use Rattle.meaning.proofs.Trees.{tree-inside, height-pos, key-bounds}
 use Rattle.meaning.proofs.Steps.{sound-real, real-height}
-use Rattle.meaning.proofs.Lengths.{AtPair, Lower, Falling}
+use Rattle.meaning.proofs.Lengths.{AtPair, Falling}
 
 -- the sides of a pair cell: "both sides are filled, 1 + the larger height is its height"
 pub record Sides (g : Net) (t : List ℕ) (A B C i j k : ℕ) : Type 0 where
@@ -112,19 +111,7 @@ module _ {g : Net} {t ls : List ℕ} where
   length-cell (RightCell.leaf x e h l m d a) = one h a
   length-cell (RightCell.pair B C k f h p m i b c j a) = sum B C k f (omega arith) p m a
 
-  kind-cell : {A i j : ℕ} → RightCell g t ls A i j → at (g .nodes) t A i j < EMPTY → Kind g t A i j
-  kind-cell (RightCell.empty e a) f = absurd (omega arith)
-  kind-cell (RightCell.leaf x e h l m d a) f = leaf x e h l m d
-  kind-cell (RightCell.pair B C k _ h p m i b c j a) f =
-      pair B C p (rw (← m) (record { tall = h; middle = i; left = b; right = c; high = j }))
-
   module _ (right : RightTable g t ls) where
     -- the length words of an accepted table are as document 01 says
     pub right-lengths : Lengths g t ls
     right-lengths = record { long = right .lengths; cell = λ A i j hA hi hj. length-cell (right .cell A i j hA hi hj) }
-
-    pub right-kinds : Kinds g t
-    right-kinds A i j hA hi hj = kind-cell (right .cell A i j hA hi hj)
-
-    pub right-falling : Sane g → Falling g t
-    right-falling ok = kinds-falling ok right-kinds

@@ -2,13 +2,13 @@
 use mathlib.Core.Path.{_≡_, sym, ap₂}
 use mathlib.Core.List.{List}
 use mathlib.Core.Logic.{_≢_, _⊎_, inl, inr}
-use mathlib.Core.Bool.{true, false}
+use mathlib.Core.Bool.{false}
 use Prim.Native.Nat.{ℕ, _≤_, _<_, min}
 use native.Mathlib.Omega.{arith}
 use native.Mathlib.Decide.{ℕ-discrete, decLt}
 use lib.ListN.{length, getD, set, length-set}
 use lib.Seq.{getD-set-same, getD-set-other, set-getD, set-out}
-use borrow.Author.Tests.{ltb-true, ltb-false, le-ltb}
+use borrow.Author.Tests.{ltb-false, le-ltb}
 use Rattle.key.specs.Keys.{EMPTY, heightOf}
 use Rattle.meaning.specs.Net.{Net, Sane, InPair}
 use Rattle.meaning.specs.Trees.{joined, Tree, pair, height, keyOf}
@@ -16,7 +16,7 @@ use Rattle.meaning.specs.Table.{cell, at, cells, Each, Real, Sound, Soun
 use Rattle.meaning.specs.Steps.{Step, Possible, candidate, targetOf, leftOf, rightOf, offer, step, wins}
 use Rattle.meaning.proofs.Joined.{joined-next}
 use Rattle.meaning.proofs.Trees.{key-height}
-use Rattle.meaning.proofs.Cells.{cell-same, cell-in, Given, candidate-left, candidate-right, candidate-cases}
+use Rattle.meaning.proofs.Cells.{cell-same, cell-in, Given, candidate-left, candidate-cases}
 use Rattle.meaning.proofs.Sums.{filled-falls, filled-more}
 
 module _ (n : ℕ) (t : List ℕ) (s : Step) where
@@ -45,10 +45,6 @@ module _ (n : ℕ) (t : List ℕ) (s : Step) where
       let e : min (getD t (targetOf n s) 0) (offer n t s) ≡ getD t (targetOf n s) 0 = omega arith in
       rw e (set-getD t (targetOf n s) 0)
 
-  pub wins-true : wins n t s ≡ true → offer n t s < getD t (targetOf n s) 0
-  unfolding wins
-  wins-true e = ltb-true _ _ e
-
   pub wins-false : wins n t s ≡ false → getD t (targetOf n s) 0 ≤ offer n t s
   unfolding wins
   wins-false e = ltb-false _ _ e
@@ -61,10 +57,6 @@ module _ (n : ℕ) (t : List ℕ) (s : Step) where
   pub offer-left : EMPTY ≤ getD t (leftOf n s) 0 → offer n t s ≡ EMPTY
   unfolding offer
   offer-left h = candidate-left _ _ (s .middle) (s .rule) h
-
-  pub offer-right : EMPTY ≤ getD t (rightOf n s) 0 → offer n t s ≡ EMPTY
-  unfolding offer
-  offer-right h = candidate-right _ _ (s .middle) (s .rule) h
 
   step-out : length t ≤ targetOf n s → step n t s ≡ t
   unfolding step

@@ -70,8 +70,5 @@ module _ (t t′ : List ℕ) (falls : (c : ℕ) → getD t′ c 0 ≤ getD t c 0
       sum-less (λ x. mark (getD t x 0)) (λ x. mark (getD t′ x 0)) (λ x. mark-falls (getD t x 0) (getD t′ x 0) (falls x)) a
       (omega (arith, mark-empty (getD t a 0) e, mark-filled (getD t′ a 0) f))
 
-  pub total-falls : (c : ℕ) → total t′ c ≤ total t c
-  total-falls = sum-le (λ x. getD t′ x 0) (λ x. getD t x 0) falls
-
   pub total-less : (a : ℕ) → getD t′ a 0 < getD t a 0 → (c : ℕ) → a < c → total t′ c < total t c
   total-less = sum-less (λ x. getD t′ x 0) (λ x. getD t x 0) falls

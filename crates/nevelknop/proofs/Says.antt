@@ -5,9 +5,9 @@ use Prim.Native.Nat.{ℕ, _/_, _%_, _^_}
 use native.Mathlib.Omega.{arith}
 use lib.ListN.{length}
 use Rattle.words.specs.declared.Check.{Check}
-use Rattle.words.specs.declared.Check.the-variants.{Good, Bad}
+use Rattle.words.specs.declared.Check.the-variants.{Bad}
 use Rattle.words.specs.declared.Refusal.{Refusal}
-use Rattle.words.proofs.Refusals.{good-bad, bad-same, Only, only-must, only-and}
+use Rattle.words.proofs.Refusals.{good-bad, bad-same}
 use Rattle.lists.specs.declared.Numbers.{Numbers}
 use Rattle.closure.specs.Runs.{runCheck}
 use Rattle.witness.specs.Answers.{witnessCheck}

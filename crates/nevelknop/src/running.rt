@@ -1,5 +1,4 @@
 // The run on a table and lengths in bytes.
-ghost use Prim.Native.Nat.{_^_, _<_};
 ghost use lib.ListN.{length};
 ghost use mathlib.Core.Path.{_≡_};
 ghost use Rattle.words.specs.declared.Check.the-variants.{Good};

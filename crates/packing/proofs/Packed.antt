@@ -6,12 +6,12 @@ use native.Mathlib.Nat.{add-assoc, add-zero, mul-zero, mul-suc, mod-eq-of-lt, le
 use native.Mathlib.Numerals.{add-one, one-add}
 use native.Mathlib.Omega.{arith}
 use lib.ListN.{length, getD, set, take, drop, length-append, length-drop, length-set, take-append-drop}
-use lib.Seq.{split-at, append-snoc, take-suc, take-suc-set, drop-set-lt, drop-cons, take-append-seam, drop-append-seam, drop-append-add, take-add, length-take-le}
+use lib.Seq.{split-at, take-suc, take-suc-set, drop-set-lt, drop-cons, take-append-seam, drop-append-seam, drop-append-add, take-add, length-take-le}
 use Rattle.words.specs.Bytes.{leAt, putLe}
 use Rattle.words.specs.Tab.{tab, over}
 use Rattle.packing.specs.Packed.{unpacked, leBytes, packed}
 use Rattle.words.proofs.Bytes.{leAt-putLe, length-putLe}
-use Rattle.words.proofs.Tab.{length-tab, getD-tab, tab-is, over-none, over-more, over-append}
+use Rattle.words.proofs.Tab.{tab-is, over-none, over-more, over-append}
 
 -- ---- lengths
 

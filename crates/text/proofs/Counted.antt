@@ -1,13 +1,11 @@
 -- The lines of the pairs are one text, and their number is that of the pairs that are reached. Assumes nothing.
-use mathlib.Core.Path.{_≡_, refl, sym, ap, _∙_}
-use mathlib.Core.List.{List, _++_}
+use mathlib.Core.Path.{_≡_, refl, ap}
+use mathlib.Core.List.{List}
 use Prim.Native.Nat.{ℕ, zero, suc, _*_, _/_, _%_, _≤_, _<_}
 use native.Mathlib.Nat.{div-lt-iff-lt-mul, mod-lt}
 use native.Mathlib.Omega.{arith}
-use Rattle.key.specs.Keys.{EMPTY}
 use Rattle.meaning.specs.Net.{Net, Sane}
 use Rattle.meaning.specs.Trees.{Reached}
-use Rattle.meaning.specs.Table.{at}
 use Rattle.meaning.specs.Final.{FinalTable}
 use Rattle.meaning.proofs.Demand2.{final-filled}
 use Rattle.meaning.proofs.Recorded.{recorded-one}

@@ -1,7 +1,7 @@
 -- Laws of the pairs' lines: where a cell of the queried nonterminal stands, and one line more. Assumes nothing.
-use mathlib.Core.Path.{_≡_, refl, sym, ap, _∙_}
+use mathlib.Core.Path.{_≡_}
 use mathlib.Core.List.{List, _++_}
-use Prim.Native.Nat.{ℕ, zero, suc, _+_, _*_, _/_, _%_, _≤_, _<_}
+use Prim.Native.Nat.{ℕ, _+_, _*_, _/_, _%_, _≤_, _<_}
 use native.Mathlib.Nat.{add-mul, div-add-mod', mul-le-mul}
 use native.Mathlib.Numerals.{add-one}
 use native.Mathlib.Omega.{arith}
@@ -16,7 +16,6 @@ use Rattle.lists.proofs.Right.{accepted, few-cells}
 use Rattle.text.specs.Text.{ascii, pairHead}
 use Rattle.text.specs.Pairs.{pairLine, Lines}
 use Rattle.text.specs.Pen.{Penned, Ready, TailPenned, LinePenned, LinesPenned}
-use Rattle.text.specs.declared.Count.{Count}
 use Rattle.text.proofs.Pens.{penned-none, penned-more}
 use Rattle.text.proofs.Counted.{nodes-in}
 

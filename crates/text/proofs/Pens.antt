@@ -34,10 +34,6 @@ penned-over {l} {w} a h = a .is ∙ sets-eq w l 0 (omega arith) ∙ rw zero-add
 pub penned-same-length : {l l′ w : List ℕ} {p q : ℕ} → Penned l l′ p q w → length l′ ≡ length l
 penned-same-length {l} {w} {p} a = ap length (a .is) ∙ length-sets l p w
 
--- a store, and a store past the end
-pub penned-one : (l : List ℕ) (p x : ℕ) → Penned l (set l p x) p (p + 1) (x ∷ [])
-penned-one l p x = record { is = refl; end = refl }
-
 pub penned-past : (l : List ℕ) (p x : ℕ) → length l ≤ p → Penned l l p (p + 1) (x ∷ [])
 penned-past l p x h = record { is = sym (set-out l p x h); end = refl }
 

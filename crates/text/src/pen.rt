@@ -1,6 +1,5 @@
 // A pen: it writes pieces of text into a lent buffer, one behind the other, and answers where it stands.
 // What does not fit is dropped, so a pen over an empty buffer only measures.
-ghost use mathlib.Core.Path.{_≡_};
 ghost use mathlib.Core.List.{[], _∷_};
 ghost use Prim.Native.Nat.{_+_, _<_, _≤_};
 ghost use lib.ListN.{length};

@@ -37,12 +37,6 @@ leAt-same zero s t p e = refl
 leAt-same (suc n) s t p e =
     rw (e p (omega arith) (omega arith), leAt-same n s t (p + 1) (λ i l h. e i (omega arith) (omega arith)))
 
--- it fits its size, where each byte does
-pub leAt-below : (n : ℕ) (s : List ℕ) (p : ℕ) → ((i : ℕ) → getD s i 0 < 256) → leAt n s p < 256 ^ n
-unfolding leAt
-leAt-below zero s p b = omega (arith, pow-zero 256)
-leAt-below (suc n) s p b = omega (arith, b p, leAt-below n s (p + 1) b, pow-succ' 256 n)
-
 -- ---- a number that is written
 
 -- its low part, and behind it its high part

@@ -3,3 +3,4 @@ pub mod Bytes
 pub mod Tab
 pub mod First
 pub mod Refusals
+pub mod Settled

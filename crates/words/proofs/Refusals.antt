@@ -20,9 +20,6 @@ pub bad-same : {r s : Refusal} → Bad r ≡ Bad s → r ≡ s
 bad-same {r} {s} e = cc
 
 module _ {k p l q : ℕ} (e : refused k p ≡ refused l q) where
-  pub same-number : k ≡ l
-  same-number = ap (λ (r : Refusal). r .number) (bad-same e)
-
   pub same-place : p ≡ q
   same-place = ap (λ (r : Refusal). r .place) (bad-same e)
 
@@ -108,11 +105,6 @@ scan-bad c (suc n) i h e b =
 pub scan-lowest : (c : ℕ → Check) (n : ℕ) (r : Refusal) → (scan c n ≡ Bad r) ↔ Lowest c n r
 scan-lowest c n r =
     (lowest c n r, λ l. scan-bad c n (l .index) (l .below) (scan-good c (l .index) .1 (l .good)) (l .bad))
-
-pub scan-same : (c d : ℕ → Check) (n : ℕ) → ((i : ℕ) → i < n → c i ≡ d i) → scan c n ≡ scan d n
-unfolding scan
-scan-same c d zero e = refl
-scan-same c d (suc n) e = rw (e n (omega arith), scan-same c d n (λ i h. e i (omega arith)))
 
 -- ---- what every refusal of a check meets
 

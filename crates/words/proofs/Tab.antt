@@ -7,7 +7,7 @@ use native.Mathlib.Nat.{eq-or-lt-of-le, le-of-suc-le-suc, not-suc-le-zero, add-s
 use native.Mathlib.Numerals.{add-one}
 use native.Mathlib.Omega.{arith}
 use lib.Dec.{ltb}
-use lib.ListN.{length, getD, set, take, drop, length-append, length-drop, take-append-drop, List·getD-append}
+use lib.ListN.{length, getD, set, drop, length-append, length-drop, List·getD-append}
 use lib.Seq.{drop-cons, drop-drop, set-at, getD-at, getD-drop, getD-append-add, ext-getD}
 use borrow.Author.Tests.{ltb-true, ltb-false}
 use borrow.Table.Steps.{cases}
@@ -39,9 +39,6 @@ pub tab-is : (f : ℕ → ℕ) (n : ℕ) (l : List ℕ) → length l ≡ n → (
 tab-is f n l e h =
     ext-getD 0 l (tab f n) (e ∙ sym (length-tab f n)) (λ i b. h i (omega arith) ∙ sym (getD-tab f n i (omega arith)))
 
-pub tab-same : (f g : ℕ → ℕ) (n : ℕ) → ((i : ℕ) → i < n → f i ≡ g i) → tab f n ≡ tab g n
-tab-same f g n e = tab-is g n (tab f n) (length-tab f n) (λ i h. getD-tab f n i h ∙ e i h)
-
 -- ---- w, then the rest of l as it was
 
 pub over-none : (l : List ℕ) → over [] l ≡ l
@@ -67,11 +64,6 @@ module _ (w l : List ℕ) where
   getD-over-past i h =
       rw (← add-sub-of-le h) (getD-append-add w (drop (length w) l) (i - length w) 0 ∙ getD-drop (length w) l (i - length w) 0)
 
-  -- a list that starts with w and goes on as l does
-  pub over-is : (r : List ℕ) → take (length w) r ≡ w → drop (length w) r ≡ drop (length w) l → r ≡ over w l
-  unfolding over
-  over-is r e d = sym (take-append-drop (length w) r) ∙ rw (e, d)
-
   -- the same, index by index
   pub over-each :
       (r : List ℕ) →
@@ -90,30 +82,9 @@ module _ (w l : List ℕ) where
 -- ---- f 0, f 1, .., f (n - 1), then the rest of l as it was: what a loop has written after n turns
 
 module _ (f : ℕ → ℕ) (n : ℕ) (l : List ℕ) where
-  pub length-over-tab : n ≤ length l → length (over (tab f n) l) ≡ length l
-  length-over-tab h = length-over (tab f n) l (rw length-tab h)
-
-  pub getD-over-tab : (i : ℕ) → i < n → getD (over (tab f n) l) i 0 ≡ f i
-  getD-over-tab i h = getD-over (tab f n) l i (rw length-tab h) ∙ getD-tab f n i h
-
-  pub getD-over-tab-past : (i : ℕ) → n ≤ i → getD (over (tab f n) l) i 0 ≡ getD l i 0
-  getD-over-tab-past i h = getD-over-past (tab f n) l i (rw length-tab h)
-
   -- one more turn
   pub over-more : n < length l → set (over (tab f n) l) n (f n) ≡ over (tab f (n + 1)) l
   unfolding over
   over-more h =
       rw (length-tab f n, length-tab f (n + 1), tab-more f n, drop-cons l n 0, append-assoc, add-one)
       (set-at (tab f n) (getD l n 0) (drop (suc n) l) (f n) n (length-tab f n))
-
-  pub over-tab-each :
-      (r : List ℕ) →
-      n ≤ length l →
-      length r ≡ length l →
-      ((i : ℕ) → i < n → getD r i 0 ≡ f i) →
-      ((i : ℕ) → n ≤ i → getD r i 0 ≡ getD l i 0) →
-      r ≡ over (tab f n) l
-  over-tab-each r h e front rest =
-      over-each (tab f n) l r (rw length-tab h) e
-      (λ i b. let a : i < n = omega (arith, length-tab f n) in front i a ∙ sym (getD-tab f n i a))
-      (λ i b. rest i (omega (arith, length-tab f n)))

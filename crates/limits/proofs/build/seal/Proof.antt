@@ -1,7 +1,5 @@
 -- `limits::build::seal` meets its contract: the sum is small. Assumes nothing.
-use mathlib.Core.Path.{_≡_}
 use Prim.Native.Nat.{_-_, _*_, _≤_}
-use lib.ListN.{length}
 use borrow.Author.Needs.{needs}
 use Rattle.limits.proofs.build.seal.Statement.{statement}
 use Rattle.limits.proofs.build.seal.Tie as tie

@@ -1,8 +1,7 @@
 -- `nevelknop::running::run_lists` meets its contract: the first refusal, or the run. Assumes nothing.
-use mathlib.Core.Path.{_≡_, refl, sym, _∙_}
-use Rattle.words.specs.declared.Check.the-variants.{Good}
+use mathlib.Core.Path.{refl, sym, _∙_}
 use Rattle.nevelknop.specs.Calls.{cellWords, RunBytes}
-use Rattle.nevelknop.proofs.Orders.{ready, words-good, words-bad}
+use Rattle.nevelknop.proofs.Orders.{words-good, words-bad}
 use Rattle.nevelknop.proofs.Places.{low-words, run-placed}
 use Rattle.nevelknop.proofs.Lent.{run-bytes}
 use borrow.Author.Needs.{needs}
