@@ -1,4 +1,4 @@
--- Laws of the reader's definitions; and, beside its promise: unknown-kind, accepted-lists, read-is, settled, example i.
+-- Laws of the reader's definitions; and, beside its promise: unknown-kind, accepted-lists, read-is, settled.
 pub mod Sums
 pub mod Rising
 pub mod Handed
