@@ -119,7 +119,7 @@ def cell(net, a, i, j):
     return (a * net.nodes + i) * net.nodes + j
 
 
-def place_of(net, c):
+def spot_of(net, c):
     """The (A, i, j) of a cell number."""
     return c // net.nodes // net.nodes, c // net.nodes % net.nodes, c % net.nodes
 
@@ -134,7 +134,7 @@ def split(key):
 
 def sides(net, c, key):
     """The left and right cell numbers of a cell whose key has a pair rule."""
-    _, i, j = place_of(net, c)
+    _, i, j = spot_of(net, c)
     _, middle, rule = split(key)
     _, b, right = net.rules[rule]
     return cell(net, b, i, middle), cell(net, right, middle, j)
@@ -177,7 +177,7 @@ def close(net):
     shapes = sorted({shape[1:] for shape in pairs})
     rows, columns = ([[0] * net.nodes for _ in each] for _ in range(2))
     table = start(net)
-    added = [place_of(net, c) for c, key in enumerate(table) if key != EMPTY]
+    added = [spot_of(net, c) for c, key in enumerate(table) if key != EMPTY]
     height = 1
     while added:
         fresh = [[0] * net.nodes for _ in each]
@@ -229,12 +229,20 @@ def depth(table):
     return max((split(key)[0] for key in table if key != EMPTY), default=0)
 
 
-def boolean_rows(net, table):
-    """The second engine's answer, read off the table."""
-    words = [0] * (net.nonterminals * net.nodes)
-    for c in filled(table):
-        words[c // net.nodes] |= 1 << c % net.nodes
-    return words
+def boolean_rows(net):
+    """The second engine's answer, by rounds of the Boolean closure: it reads no table."""
+    rows = [0] * (net.nonterminals * net.nodes)
+    for a, x, third in net.rules:
+        for i, label, j in net.edges if third == LABEL else ():
+            rows[a * net.nodes + i] |= (label == x) << j
+    before = None
+    while before != rows:
+        before = list(rows)
+        for a, b, c in net.rules:
+            for i in range(net.nodes) if c != LABEL else ():
+                for k in bits(rows[b * net.nodes + i]):
+                    rows[a * net.nodes + i] |= rows[c * net.nodes + k]
+    return rows
 
 
 # The single step
@@ -283,7 +291,7 @@ def right_cell(net, lowest, table, lengths, c):
     key, length = table[c], lengths[c]
     if key == EMPTY:
         return length == 0
-    a, i, j = place_of(net, c)
+    a, i, j = spot_of(net, c)
     height, middle, number = split(key)
     if height == 0 or number >= len(net.rules) or net.rules[number][0] != a or middle >= net.nodes:
         return False
@@ -311,7 +319,7 @@ def path(net, table, c):
     lowest, parts = lowest_edges(net), {}
     for at in sorted(wanted, key=table.__getitem__):  # sides are lower, so they come first
         if split(table[at])[0] == 1:
-            _, i, j = place_of(net, at)
+            _, i, j = spot_of(net, at)
             parts[at] = [lowest[i, net.rules[split(table[at])[2]][1], j]]
         else:
             left, right = sides(net, at, table[at])
@@ -334,7 +342,7 @@ def report(deck):
     first = cell(net, header.query, 0, 0)
     for c in range(first, first + net.nodes * net.nodes):
         if table[c] != EMPTY:
-            _, i, j = place_of(net, c)
+            _, i, j = spot_of(net, c)
             height, middle, _ = split(table[c])
             shown = 'long' if lengths[c] > ROOM else ' '.join(map(str, path(net, table, c)))
             lines.append(f'{i} {j} h {height} m {middle} l {lengths[c]} : {shown}')
@@ -353,7 +361,7 @@ def table_lines(deck):
     lines = []
     for c, key in enumerate(table):
         if key != EMPTY:
-            lines.append(' '.join(map(str, (*place_of(net, c), *split(key), lengths[c]))))
+            lines.append(' '.join(map(str, (*spot_of(net, c), *split(key), lengths[c]))))
     lines.append(f'cells {len(lines)} depth {depth(table)}')
     return '\n'.join(lines) + '\n'
 

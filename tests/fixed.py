@@ -59,7 +59,7 @@ EDGES = [(e % 7, 2 * (e % 85), e // 3 % 7) for e in range(170)]
 RIGHT = pack((7, 5, 3, 85, 85, 170, 1), ENTRIES, RULES, EDGES)  # blocks: header, 2 map, 2 rules, 3 edges
 
 
-def word_at(b, record, word):
+def byte_of_word(b, record, word):
     return b * 512 + 4 + 6 * record + 2 * word
 
 
@@ -94,7 +94,7 @@ def record_fields():
     fields = []
     for name, (b, record) in records.items():
         for word in range(3):
-            at = word_at(b, record, word)
+            at = byte_of_word(b, record, word)
             now = struct.unpack_from('<H', RIGHT, at)[0]
             values = sorted({0, 1, 3, 4, 5, 6, 7, 65534, 65535, now - 1, now + 1, now + 2} - {-1})
             fields += [(f'{name} word {word}', at, value, 2) for value in values]
@@ -116,13 +116,13 @@ def empty_blocks():
 
 FAULTS = [  # name, place, value, size: one or two for each refusal, in the reader's order
     ('check of block 5', 5 * 512 + 508, 1, 1), ('number of block 4', 4 * 512 + 2, 9, 1), ('type of block 6', 6 * 512, 2, 1),
-    ('65 nodes', word_at(0, 0, 0), 65, 2), ('no such query', word_at(0, 2, 0), 5, 2), ('header word 7', word_at(0, 2, 1), 1, 2),
-    ('padding of block 2', 2 * 512 + 507, 1, 1), ('count of block 5', 5 * 512 + 1, 83, 1), ('171 edges stated', word_at(0, 1, 2), 171, 2),
-    ('label 0 in entry 1', word_at(1, 1, 1), 0, 2), ('kind of entry 84', word_at(2, 0, 0), 0, 2),
-    ('rule 2', word_at(3, 2, 0), 5, 2), ('rule 84', word_at(4, 0, 2), 5, 2),
-    ('kind of edge 2', word_at(5, 2, 1), 1, 2), ('node of edge 3', word_at(5, 3, 0), 7, 2),
-    ('kind of edge 169', word_at(7, 1, 1), 1, 2), ('node of edge 169', word_at(7, 1, 2), 7, 2),
-    ('17 nodes', word_at(0, 0, 0), 17, 2), ('9 nonterminals', word_at(0, 0, 1), 9, 2),
+    ('65 nodes', byte_of_word(0, 0, 0), 65, 2), ('no such query', byte_of_word(0, 2, 0), 5, 2), ('header word 7', byte_of_word(0, 2, 1), 1, 2),
+    ('padding of block 2', 2 * 512 + 507, 1, 1), ('count of block 5', 5 * 512 + 1, 83, 1), ('171 edges stated', byte_of_word(0, 1, 2), 171, 2),
+    ('label 0 in entry 1', byte_of_word(1, 1, 1), 0, 2), ('kind of entry 84', byte_of_word(2, 0, 0), 0, 2),
+    ('rule 2', byte_of_word(3, 2, 0), 5, 2), ('rule 84', byte_of_word(4, 0, 2), 5, 2),
+    ('kind of edge 2', byte_of_word(5, 2, 1), 1, 2), ('node of edge 3', byte_of_word(5, 3, 0), 7, 2),
+    ('kind of edge 169', byte_of_word(7, 1, 1), 1, 2), ('node of edge 169', byte_of_word(7, 1, 2), 7, 2),
+    ('17 nodes', byte_of_word(0, 0, 0), 17, 2), ('9 nonterminals', byte_of_word(0, 0, 1), 9, 2),
 ]
 
 

@@ -364,7 +364,7 @@ def witness_call(rng, net, lists):
         bent(rng, net, table, lengths)
     full = closure.filled(table)
     c = rng.choice(full) if full and rng.random() < 0.85 else rng.randrange(len(table))
-    ask = list(closure.place_of(net, c))
+    ask = list(closure.spot_of(net, c))
     if rng.random() < 0.1:
         at = rng.randrange(3)
         ask[at] = rng.choice((net.nodes, net.nonterminals, 65536 + ask[at], 2**32 - 1))

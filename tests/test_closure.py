@@ -127,7 +127,7 @@ def brute_force(cases):
 
 def witness(net, table, lengths, c):
     """A witness is a real path of the recorded length, and parses to the recorded height."""
-    a, i, j = closure.place_of(net, c)
+    a, i, j = closure.spot_of(net, c)
     edges = path(net, table, c)
     stops = [i] + [net.edges[e][2] for e in edges]
     assert len(edges) == lengths[c] and stops[-1] == j
@@ -150,13 +150,13 @@ def any_order(cases):
             rng.shuffle(every)
             still = not any([closure.step(net, table, *one) for one in every])
         assert table == close(net), net
-        rows = closure.boolean_rows(net, table)
+        rows = closure.boolean_rows(net)
         assert all((rows[c // net.nodes] >> c % net.nodes) % 2 == (key != EMPTY) for c, key in enumerate(table))
     return cases
 
 
 def refusals():
-    """Refusals that no program here can show: the step's, and the order of a C call's."""
+    """Refusals that no program here can show: the step's."""
     table = close(SAMPLE)
     step = lambda words, *arguments: refusal(closure.step, SAMPLE, list(words), *arguments)
     assert step(table, 0, 0, 0, 0) == (15, 0) and step(table, 7, 9, 9, 9) == (15, 0)
@@ -173,7 +173,7 @@ def refusals():
     assert step(words, 3, 0, 1, 2) == (12, target)
     words[target] = closure.make(131072, 4, 6)
     assert step(words, 3, 0, 1, 2) is None  # the candidate does not win, so it is not too high
-    return 7 + 15 + 2
+    return 6 + 15 + 1
 
 
 def lengths_reached():

@@ -24,9 +24,11 @@ use Rattle.meaning.proofs.Heights.{high-few}
 use Rattle.meaning.proofs.PassOf.{pass-of, pass-still}
 use Rattle.meaning.proofs.Demand3.{start-final}
 use Rattle.meaning.proofs.Right.{Sides, Kind, leaf, pair, final-kinds}
-use Rattle.lists.specs.declared.Numbers.{Numbers}
-use Rattle.lists.specs.Lists.{net, cellsOf, listsCheck, roomCheck}
-use Rattle.lists.proofs.Right.{RightLists, room-good, accepted, sane}
+use Rattle.numbers.specs.declared.Numbers.{Numbers}
+use Rattle.numbers.specs.Numbers.{cellsOf, roomCheck}
+use Rattle.lists.specs.Lists.{net, listsCheck}
+use Rattle.numbers.proofs.Right.{room-good}
+use Rattle.lists.proofs.Right.{RightLists, accepted, sane}
 use Rattle.closure.specs.declared.Size.{Size}
 use Rattle.closure.specs.declared.End.the-variants.{Done, High}
 use Rattle.closure.specs.Passes.{count, Low, Rules, passes, Settled}

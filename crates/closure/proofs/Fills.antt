@@ -1,23 +1,22 @@
 -- Lengths as they become known: none, one more, and two stretches after each other. Assumes nothing.
-use mathlib.Core.Path.{_≡_, refl, sym, ap, _∙_}
-use mathlib.Core.List.{List, _++_}
+use mathlib.Core.Path.{_≡_, refl, ap, _∙_}
+use mathlib.Core.List.{List}
 use mathlib.Core.Logic.{_≢_, inl, inr}
 use mathlib.Core.Bool.{Bool, true, false, cond, _||_}
-use Prim.Native.Nat.{ℕ, _+_, _≤_, _<_, min}
+use Prim.Native.Nat.{ℕ, _+_, _≤_, _<_}
 use native.Mathlib.Omega.{arith}
 use native.Mathlib.Nat.{le-refl}
 use native.Mathlib.Decide.{ℕ-discrete}
-use lib.ListN.{length, getD, set, drop, replicate, length-set, length-replicate, getD-replicate}
-use lib.Seq.{getD-set-same, getD-set-other, drop-set-lt, drop-at}
+use lib.ListN.{length, getD, set, drop, replicate, length-set, length-replicate}
+use lib.Seq.{getD-set-same, getD-set-other, drop-set-lt}
 use lib.Dec.{eqb}
 use borrow.Author.Tests.{eq-eqb, ne-eqb}
 use Rattle.key.specs.Keys.{EMPTY, heightOf}
 use Rattle.words.specs.Tab.{over}
-use Rattle.words.proofs.Tab.{length-over, getD-over}
+use Rattle.words.proofs.Tab.{length-fill, getD-fill}
 use Rattle.meaning.specs.Table.{cell}
 use Rattle.meaning.specs.Lengths.{heldSum}
 use Rattle.meaning.proofs.Sums.{sum-less}
-use Rattle.start.specs.Entering.{cleared}
 use Rattle.closure.specs.declared.Size.{Size}
 use Rattle.closure.specs.Passes.{count}
 use Rattle.closure.specs.Fills.{leftSide, rightSide, PairCell, KnownCell, unknown, one, sides, Known, Wanted, Idle, empty, known as is-known, zeros, Grown, Filled, FilledAt}
@@ -148,23 +147,11 @@ module _ (z : Size) (rules t : List ℕ) where
   -- nothing known yet
   pub known-none : (ls : List ℕ) → count z ≤ length ls → Known z rules t (over (replicate (count z) 0) ls)
   known-none ls long = record {
-    long = rw (length-over (replicate (count z) 0) ls (rw length-replicate long)) long;
-    cell = λ c l. unknown (getD-over (replicate (count z) 0) ls c (rw length-replicate l) ∙ getD-replicate (count z) c 0 0 l);
+    long = rw (length-fill (count z) 0 ls long) long;
+    cell = λ c l. unknown (getD-fill (count z) 0 ls c l);
   }
-
--- a list filled from the front is one whose front is written
-pub over-fill : (n v : ℕ) (l : List ℕ) → replicate n v ++ drop n l ≡ over (replicate n v) l
-unfolding over
-over-fill n v l = rw (length-replicate n v) refl
-
-pub over-kept : (n v : ℕ) (l : List ℕ) → drop n (over (replicate n v) l) ≡ drop n l
-over-kept n v l = rw (← (over-fill n v l)) (drop-at (replicate n v) (drop n l) n (length-replicate n v))
-
--- the words that step's `clear` leaves
-pub cleared-over : (n : ℕ) (t : List ℕ) → n ≤ length t → cleared n t ≡ over (replicate n EMPTY) t
-unfolding cleared
-cleared-over n t l = let e : min n (length t) ≡ n = omega arith in rw e (over-fill n EMPTY t)
 
 -- what lies past a front that is written is all that counts
 pub over-same : (n v : ℕ) (l l′ : List ℕ) → drop n l ≡ drop n l′ → over (replicate n v) l ≡ over (replicate n v) l′
-over-same n v l l′ e = sym (over-fill n v l) ∙ (rw e (over-fill n v l′))
+unfolding over
+over-same n v l l′ e = rw (length-replicate n v, e)

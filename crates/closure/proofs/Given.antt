@@ -7,10 +7,12 @@ use native.Mathlib.Omega.{arith}
 use Rattle.words.specs.declared.Check.the-variants.{Good}
 use Rattle.words.specs.Refusals.{refused, _andThen_}
 use Rattle.words.proofs.Refusals.{and-bad, only-must, only-and, and-first, and-second}
-use Rattle.lists.specs.declared.Numbers.{Numbers}
-use Rattle.lists.specs.Lists.{cellsOf, listsCheck, roomCheck}
-use Rattle.lists.proofs.Right.{room-good}
-use Rattle.lists.proofs.Given.{lists-other, room-given}
+use Rattle.numbers.specs.declared.Numbers.{Numbers}
+use Rattle.numbers.specs.Numbers.{cellsOf, roomCheck}
+use Rattle.lists.specs.Lists.{listsCheck}
+use Rattle.numbers.proofs.Right.{room-good}
+use Rattle.numbers.proofs.Given.{room-given}
+use Rattle.lists.proofs.Given.{lists-other}
 use Rattle.closure.specs.Runs.{runCheck}
 
 module _ (numbers : Numbers) (rules edges : List ℕ) (table lengths p : ℕ) where

@@ -8,12 +8,11 @@ use Rattle.words.specs.declared.Check.{Check}
 use Rattle.words.specs.declared.Check.the-variants.{Good, Bad}
 use Rattle.words.proofs.Refusals.{and-good}
 use Rattle.meaning.specs.Net.{Net, Sane}
-use Rattle.meaning.proofs.Demand2.{final-tables}
-use Rattle.meaning.proofs.Fronts.{tables-same}
+use Rattle.meaning.proofs.Demand2.{final-lists}
 use Rattle.meaning.proofs.Heights.{accepted-always}
 use Rattle.meaning.proofs.Lengths.{lengths-list}
 use Rattle.meaning.proofs.Right.{final-falling}
-use Rattle.lists.specs.declared.Numbers.{Numbers}
+use Rattle.numbers.specs.declared.Numbers.{Numbers}
 use Rattle.lists.specs.Lists.{net, listsCheck}
 use Rattle.lists.proofs.Right.{accepted, sane}
 use Rattle.closure.specs.declared.RunAnswer.{RunAnswer}
@@ -38,7 +37,7 @@ module _ {g : Net} (ok : Sane g) where
   pub closed-same : {t ls t′ ls′ t″ ls″ : List ℕ} {d e : ℕ} → Closed g t ls t′ ls′ d → Closed g t ls t″ ls″ e → Same (Depth d) (Depth e) t′ t″ ls′ ls″
   closed-same {t} {ls} {t′} {ls′} {t″} {ls″} {d} {e} x y =
       let same : t′ ≡ t″ =
-      tables-same g t′ t″ (x .final .long) (y .final .long) (final-tables t′ t″ (x .final) (y .final)) (x .kept ∙ sym (y .kept)) in
+      final-lists t′ t″ (x .final) (y .final) (x .kept ∙ sym (y .kept)) in
       let deep : d ≡ e = x .deep ∙ (rw same (sym (y .deep))) in
       record {
         answer = rw deep refl;

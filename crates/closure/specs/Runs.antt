@@ -14,8 +14,9 @@ use Rattle.meaning.specs.Table.{cells, StartTable}
 use Rattle.meaning.specs.Steps.{Step, Possible, All, after, targetOf, tooHigh}
 use Rattle.meaning.specs.Final.{FinalTable}
 use Rattle.meaning.specs.Lengths.{Lengths, depth}
-use Rattle.lists.specs.declared.Numbers.{Numbers}
-use Rattle.lists.specs.Lists.{cellsOf, listsCheck, roomCheck}
+use Rattle.numbers.specs.declared.Numbers.{Numbers}
+use Rattle.numbers.specs.Numbers.{cellsOf, roomCheck}
+use Rattle.lists.specs.Lists.{listsCheck}
 use Rattle.closure.specs.declared.RunAnswer.{RunAnswer}
 use Rattle.closure.specs.declared.RunAnswer.the-variants.{Depth, Refused}
 

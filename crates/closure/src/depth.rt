@@ -19,7 +19,7 @@ fn height(word: u64) -> u32
     parts.height
 }
 
-pub fn depth_of(table: &[u64], n: usize) -> u32
+pub(crate) fn depth_of(table: &[u64], n: usize) -> u32
     requires { ⌜ n ≤ length (now table) ⌝ }
     ensures { λ d. ⌜ d ≡ depth (now (table .entry)) n ⌝ }
 {

@@ -9,10 +9,10 @@ ghost use Rattle.closure.specs.Passes.{count};
 ghost use Rattle.closure.specs.Fills.{leftSide, rightSide, PairCell, Linked, Known, Wanted, FilledAt, Finished};
 use crate::Size;
 use key::Key;
-use lists::cells;
 use meaning::cell;
 use meaning::held_sum;
 use meaning::word;
+use numbers::cells;
 
 // How many levels a fill goes down: enough for nearly every table, and few enough for the stack.
 const LEVELS: u32 = 1000;
@@ -65,7 +65,9 @@ fn take(table: &[u64], lengths: &mut [u32], z: Size, rules: &[u16], c: usize) ->
     if !wanted(table, lengths, c) {
         return false;
     }
-    if table[c] / 4294967296 == 1 {
+    let held = table[c];
+    let key = Key { word: held }.split();
+    if key.height == 1 {
         lengths[c] = 1;
         return true;
     }
@@ -92,7 +94,9 @@ fn deeper(table: &[u64], lengths: &[u32], c: usize, levels: u32) -> bool
     if !wanted(table, lengths, c) {
         return false;
     }
-    if table[c] / 4294967296 == 1 {
+    let held = table[c];
+    let key = Key { word: held }.split();
+    if key.height == 1 {
         return false;
     }
     0 < levels
@@ -147,7 +151,7 @@ fn sweep(table: &[u64], lengths: &mut [u32], z: Size, rules: &[u16]) -> bool
 }
 
 // No length known.
-pub fn clear(lengths: &mut [u32], n: usize)
+pub(crate) fn clear(lengths: &mut [u32], n: usize)
     requires { ⌜ n ≤ length (now lengths) ⌝ }
     ensures { λ _. ⌜ now (lengths .exit) ≡ over (replicate n 0) (now (lengths .entry)) ⌝ }
 {
@@ -160,7 +164,7 @@ pub fn clear(lengths: &mut [u32], n: usize)
 
 // Every length, by sweeps until one finds none. It ends, since every other makes more lengths known; and there are few,
 // since one sweep reaches LEVELS levels above the lengths that are known.
-pub fn fill_all(table: &[u64], lengths: &mut [u32], z: Size, rules: &[u16])
+pub(crate) fn fill_all(table: &[u64], lengths: &mut [u32], z: Size, rules: &[u16])
     requires { ⌜ Linked z (now rules) (now table) ⌝ }
     requires { ⌜ count z ≤ length (now lengths) ⌝ }
     ensures { λ _. ⌜ Finished z (now (rules .entry)) (now (table .entry)) (now (lengths .entry)) (now (lengths .exit)) ⌝ }

@@ -61,7 +61,8 @@ fn join(table: &mut [u64], to: usize, left: u64, from: usize, k: u16, r: u16) ->
     if table[to] <= word {
         return STILL;
     }
-    if 131072 < word / 4294967296 {
+    let made = Key { word: word }.split();
+    if 131072 < made.height {
         return to + 2;
     }
     table[to] = word;
@@ -170,7 +171,7 @@ fn pass(table: &mut [u64], z: Size, rules: &[u16]) -> usize
 }
 
 // Passes until a whole one moves nothing. It ends, since every other lowers the total of the table's words.
-pub fn settle(table: &mut [u64], z: Size, rules: &[u16]) -> End
+pub(crate) fn settle(table: &mut [u64], z: Size, rules: &[u16]) -> End
     requires { ⌜ Low z (now table) ⌝ }
     requires { ⌜ Rules z (now rules) ⌝ }
     ensures { λ a. ⌜ Settled z (now (rules .entry)) (now (table .entry)) (now (table .exit)) a ⌝ }

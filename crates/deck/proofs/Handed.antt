@@ -11,9 +11,9 @@ use Rattle.words.specs.Refusals.{must, scan}
 use Rattle.words.specs.declared.Refusal.{Refusal}
 use Rattle.words.specs.declared.Check.the-variants.{Good, Bad}
 use Rattle.words.proofs.First.{first-le}
-use Rattle.words.proofs.Refusals.{must-good, and-good, and-stop, and-next, scan-good}
-use Rattle.lists.specs.Lists.{inLimits, roomCheck}
-use Rattle.lists.proofs.Right.{both, Between, between-true}
+use Rattle.words.proofs.Refusals.{both, must-good, and-good, and-stop, and-next, scan-good}
+use Rattle.numbers.specs.Numbers.{inLimits, roomCheck}
+use Rattle.numbers.proofs.Right.{Between, between-true, room-good}
 use Rattle.deck.specs.Blocks.{blocks, typeOf, wordAt, firstOf, recordAt}
 use Rattle.deck.specs.Reads.{headerOf, rightSize, sizeCheck, frameCheck, limitCheck, headerCheck, fillCheck, totalsCheck, entryCheck, ruleRecordCheck, entryOf, rightNodes, rightKind, edgeRecordCheck, deckCheck, readCheck}
 use Rattle.deck.specs.Stages.{sectionsOf, Handed, Mapped, Known, listsRoom}
@@ -133,20 +133,6 @@ module _ (d : List ℕ) (rules edges : ℕ) where
   read-next e = and-next e
 
 pub lists-fit : (h : Header) (rules edges : ℕ) → listsRoom h rules edges ≡ Good → (3 * h .rules ≤ rules) × (3 * h .edges ≤ edges)
-unfolding roomCheck
 lists-fit h rules edges e =
     let b = and-good (roomCheck 3 (3 * h .rules) rules) (roomCheck 4 (3 * h .edges) edges) .0 e in
-    (leb-true _ _ (must-good _ 10 3 .0 (b .0)), leb-true _ _ (must-good _ 10 4 .0 (b .1)))
-
--- all passed
-pub record Accepted (d : List ℕ) (rules edges : ℕ) : Type 0 where
-  pub deck : RightDeck d
-  pub rules-fit : 3 * wordAt d 0 4 ≤ rules
-  pub edges-fit : 3 * wordAt d 0 5 ≤ edges
-
-pub accepted : (d : List ℕ) (rules edges : ℕ) → readCheck d rules edges ≡ Good → Accepted d rules edges
-unfolding readCheck
-accepted d rules edges e =
-    let a = and-good (deckCheck d) _ .0 e in
-    let fit = lists-fit (headerOf d) rules edges (a .1) in
-    record { deck = right-deck d (a .0); rules-fit = fit .0; edges-fit = fit .1 }
+    (room-good _ _ _ .0 (b .0), room-good _ _ _ .0 (b .1))

@@ -8,13 +8,13 @@ use lib.Dec.{ltb}
 use borrow.Author.Tests.{ltb-true}
 use Rattle.words.specs.declared.Check.the-variants.{Good}
 use Rattle.words.proofs.Tab.{length-tab, getD-tab}
-use Rattle.words.proofs.Refusals.{must-good, scan-good}
+use Rattle.words.proofs.Refusals.{both, must-good, scan-good}
 use Rattle.meaning.specs.Net.{word}
 use Rattle.lists.specs.Lists.{listsCheck}
-use Rattle.lists.proofs.Right.{both, RuleIn, right-rule, EdgeIn, RightLists, accepting}
+use Rattle.lists.proofs.Right.{RuleIn, right-rule, EdgeIn, RightLists, accepting}
 use Rattle.deck.specs.Blocks.{wordAt, recordAt}
-use Rattle.deck.specs.Reads.{numbersOf, ruleRecordCheck, entryOf, rulesOf, edgeWord, edgesOf, readCheck}
-use Rattle.deck.proofs.Handed.{limited, RightDeck, edge-right, edge-known, accepted}
+use Rattle.deck.specs.Reads.{numbersOf, ruleRecordCheck, entryOf, rulesOf, edgeWord, edgesOf, deckCheck}
+use Rattle.deck.proofs.Handed.{limited, RightDeck, edge-right, edge-known, right-deck}
 use Rattle.deck.proofs.Map.{label-in}
 
 module _ (d : List ℕ) where
@@ -75,8 +75,5 @@ module _ (d : List ℕ) (ok : RightDeck d) where
         edge = λ e h. edge-in e (omega arith);
       }
 
-pub accepted-lists :
-    (d : List ℕ) (rules edges : ℕ) →
-    readCheck d rules edges ≡ Good →
-    listsCheck (numbersOf d) (rulesOf d) (edgesOf d) ≡ Good
-accepted-lists d rules edges e = accepting _ _ _ (right-lists d (accepted d rules edges e .deck))
+pub accepted-lists : (d : List ℕ) → deckCheck d ≡ Good → listsCheck (numbersOf d) (rulesOf d) (edgesOf d) ≡ Good
+accepted-lists d e = accepting _ _ _ (right-lists d (right-deck d e))

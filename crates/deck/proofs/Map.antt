@@ -11,9 +11,9 @@ use lib.Dec.{eqb, ltb}
 use borrow.Author.Tests.{ltb-true, lt-ltb, le-ltb, ne-eqb}
 use borrow.Table.Steps.{cases}
 use Rattle.words.proofs.First.{first-le, first-same}
-use Rattle.words.proofs.Refusals.{must-good, scan-good}
-use Rattle.lists.specs.Lists.{between}
-use Rattle.lists.proofs.Right.{both, Between, between-true}
+use Rattle.words.proofs.Refusals.{both, must-good, scan-good}
+use Rattle.numbers.specs.Numbers.{between}
+use Rattle.numbers.proofs.Right.{Between, between-true}
 use Rattle.deck.specs.Blocks.{wordAt, recordAt}
 use Rattle.deck.specs.Reads.{rising, rightEntry, entryCheck, entryOf}
 use Rattle.deck.specs.Stages.{Mapped, Kinds, Rising, upperOf, foundOf}

@@ -6,7 +6,7 @@ use lib.ListN.{length, getD}
 use lib.Dec.{eqb, leb}
 use Rattle.words.specs.Bytes.{leAt}
 use Rattle.words.specs.First.{first}
-use Rattle.lists.specs.Lists.{between}
+use Rattle.numbers.specs.Numbers.{between}
 
 -- "A deck is whole blocks of 512 bytes"
 abbrev pub blocks : List ℕ → ℕ

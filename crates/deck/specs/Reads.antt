@@ -9,8 +9,9 @@ use Rattle.words.specs.declared.Check.the-variants.{Good, Bad}
 use Rattle.words.specs.Refusals.{refused, must, _andThen_, scan}
 use Rattle.words.specs.First.{first}
 use Rattle.words.specs.Tab.{tab, over}
-use Rattle.lists.specs.declared.Numbers.{Numbers}
-use Rattle.lists.specs.Lists.{between, inLimits, rightRule, roomCheck}
+use Rattle.numbers.specs.declared.Numbers.{Numbers}
+use Rattle.numbers.specs.Numbers.{between, inLimits, roomCheck}
+use Rattle.lists.specs.Lists.{rightRule}
 use Rattle.deck.specs.Blocks.{blocks, typeOf, rightSum, rightOrder, wordAt, rightHeader, rightRecords, total, recordAt}
 use Rattle.deck.specs.declared.Header.{Header}
 use Rattle.deck.specs.declared.ReadAnswer.{ReadAnswer}

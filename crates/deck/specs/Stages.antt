@@ -9,7 +9,7 @@ use Rattle.words.specs.declared.Check.{Check}
 use Rattle.words.specs.declared.Check.the-variants.{Good}
 use Rattle.words.specs.First.{first}
 use Rattle.words.specs.Refusals.{_andThen_, scan}
-use Rattle.lists.specs.Lists.{roomCheck}
+use Rattle.numbers.specs.Numbers.{roomCheck}
 use Rattle.deck.specs.Blocks.{blocks, wordAt, firstOf, recordAt}
 use Rattle.deck.specs.Reads.{headerOf, fillCheck, totalsCheck, entryCheck, ruleRecordCheck, entryOf, edgeRecordCheck}
 use Rattle.deck.specs.declared.Header.{Header}

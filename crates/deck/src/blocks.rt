@@ -9,7 +9,7 @@ ghost use Rattle.deck.specs.Stages.{sectionsOf};
 use crate::Header;
 use crate::Sections;
 use crate::reader::block;
-use lists::in_limits;
+use numbers::in_limits;
 use words::Check;
 use words::and_then;
 use words::must;

@@ -11,7 +11,7 @@ ghost use lib.ListN.{length};
 ghost use Rattle.words.specs.declared.Check.the-variants.{Good};
 ghost use Rattle.deck.specs.Reads.{rightSize, sizeCheck, headerCheck, deckCheck, readCheck, rulesOf, edgesOf, answered, written};
 ghost use Rattle.deck.specs.Stages.{Handed, recordsCheck, filledCheck, listsRoom};
-use lists::room;
+use numbers::room;
 use words::Check;
 use words::Refusal;
 use words::and_then;

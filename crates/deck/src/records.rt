@@ -8,8 +8,8 @@ ghost use Rattle.deck.specs.Stages.{Placed, Handed, Mapped, Kinds, Risin
 use crate::Found;
 use crate::Header;
 use crate::Sections;
-use lists::Numbers;
 use lists::right_rule;
+use numbers::Numbers;
 use words::Check;
 use words::and_then;
 use words::must;

@@ -9,6 +9,7 @@ use lib.ListN.{length}
 use lib.Dec.{eqb, leb, ltb}
 use borrow.Author.Tests.{leb-true, ltb-true, ne-eqb, not-true}
 use Rattle.key.specs.Keys.{EMPTY}
+use Rattle.words.proofs.Refusals.{both}
 use Rattle.meaning.specs.Net.{Sane, netOf, word}
 use Rattle.meaning.specs.Table.{at, Each, HoldsLeaves}
 use Rattle.meaning.specs.Passes.{stepsOf, changes}
@@ -19,7 +20,6 @@ use Rattle.meaning.proofs.Trees.{tree-inside}
 use Rattle.meaning.proofs.Start.{leaf-tree, leaf-low}
 use Rattle.meaning.proofs.Demand3.{still-final}
 use Rattle.meaning.proofs.PassOf.{pass-of, quiet-still}
-use Rattle.meaning.proofs.Edges.{and-both}
 use Rattle.meaning.proofs.Recorded.{right-sound, recorded-some, recorded-length}
 use Rattle.meaning.proofs.Nets.{sane-lists}
 use Rattle.meaning.proofs.Computed.{start-cell, right-true, path-computed}
@@ -58,7 +58,7 @@ certain n m rules edges t ls =
 every-true : (p : ℕ → Bool) (n : ℕ) → every p n ≡ true → (k : ℕ) → k < n → p k ≡ true
 unfolding every
 every-true p zero e k l = absurd (omega arith)
-every-true p (suc n) e k l = go (and-both (every p n) (p n) e) (every-true p n) (ℕ-discrete k n)
+every-true p (suc n) e k l = go (both (every p n) (p n) .0 e) (every-true p n) (ℕ-discrete k n)
   where
     go : (every p n ≡ true) × (p n ≡ true) → (every p n ≡ true → (k : ℕ) → k < n → p k ≡ true) → Dec (k ≡ n) → p k ≡ true
     go b ih (yes q) = rw q (b .1)
@@ -77,18 +77,18 @@ module _ (n m : ℕ) (rules edges : List ℕ) where
   sane-true : sane n m rules edges ≡ true → Sane (netOf n m rules edges)
   unfolding sane saneRule saneEdge
   sane-true e =
-      let a = and-both (leb n 64) _ e in
-      let b = and-both (leb m 32) _ (a .1) in
-      let c = and-both (leb (length rules / 3) 256) _ (b .1) in
-      let d = and-both (every (saneRule m rules) (length rules / 3)) (every (saneEdge n edges) (length edges / 3)) (c .1) in
+      let a = both (leb n 64) _ .0 e in
+      let b = both (leb m 32) _ .0 (a .1) in
+      let c = both (leb (length rules / 3) 256) _ .0 (b .1) in
+      let d = both (every (saneRule m rules) (length rules / 3)) (every (saneEdge n edges) (length edges / 3)) .0 (c .1) in
       sane-lists n m rules edges (leb-true _ _ (a .0)) (leb-true _ _ (b .0)) (leb-true _ _ (c .0))
-      (λ r l. ltb-true _ _ (and-both (ltb (word rules r 0) m) _ (every-true (saneRule m rules) _ (d .0) r l) .0))
+      (λ r l. ltb-true _ _ (both (ltb (word rules r 0) m) _ .0 (every-true (saneRule m rules) _ (d .0) r l) .0))
       (λ r l p.
-      let f = and-both (ltb (word rules r 0) m) _ (every-true (saneRule m rules) _ (d .0) r l) .1 in
-      let h = and-both (ltb (word rules r 1) m) (ltb (word rules r 2) m) (or-right (eqb (word rules r 2) 65535) _ f (ne-eqb _ _ p)) in
+      let f = both (ltb (word rules r 0) m) _ .0 (every-true (saneRule m rules) _ (d .0) r l) .1 in
+      let h = both (ltb (word rules r 1) m) (ltb (word rules r 2) m) .0 (or-right (eqb (word rules r 2) 65535) _ f (ne-eqb _ _ p)) in
       (ltb-true _ _ (h .0), ltb-true _ _ (h .1)))
       (λ x l.
-      let h = and-both (ltb (word edges x 0) n) (ltb (word edges x 2) n) (every-true (saneEdge n edges) _ (d .1) x l) in
+      let h = both (ltb (word edges x 0) n) (ltb (word edges x 2) n) .0 (every-true (saneEdge n edges) _ (d .1) x l) in
       (ltb-true _ _ (h .0), ltb-true _ _ (h .1)))
 
   -- what `certain` asks, test by test
@@ -102,11 +102,11 @@ module _ (n m : ℕ) (rules edges : List ℕ) where
     tested : Tested t ls
     unfolding certain
     tested =
-        let a = and-both (sane n m rules edges) _ test in
-        let b = and-both (leb (m * n * n) (length t)) _ (a .1) in
-        let c = and-both (leb (m * n * n) (length ls)) _ (b .1) in
-        let d = and-both (eachCell n m (rightCell n rules edges t ls)) _ (c .1) in
-        let e = and-both (eachCell n m (λ A i j. leb (at n t A i j) (startWord rules edges A i j))) (not (changes n t (stepsOf rules n))) (d .1) in
+        let a = both (sane n m rules edges) _ .0 test in
+        let b = both (leb (m * n * n) (length t)) _ .0 (a .1) in
+        let c = both (leb (m * n * n) (length ls)) _ .0 (b .1) in
+        let d = both (eachCell n m (rightCell n rules edges t ls)) _ .0 (c .1) in
+        let e = both (eachCell n m (λ A i j. leb (at n t A i j) (startWord rules edges A i j))) (not (changes n t (stepsOf rules n))) .0 (d .1) in
         record {
           within = sane-true (a .0);
           right = record {

@@ -11,7 +11,8 @@ use Rattle.words.specs.Tab.{tab}
 use Rattle.words.specs.Refusals.{refused, must, _andThen_, scan}
 use Rattle.words.specs.declared.Check.the-variants.{Good}
 use Rattle.words.proofs.Refusals.{and-stop, and-next, scan-good}
-use Rattle.lists.specs.Lists.{inLimits, rightRule, roomCheck}
+use Rattle.numbers.specs.Numbers.{inLimits, roomCheck}
+use Rattle.lists.specs.Lists.{rightRule}
 use Rattle.deck.specs.Blocks.{blocks, sumAt, rightSum, rightOrder, total, firstOf, recordAt}
 use Rattle.deck.specs.Reads.{sizeCheck, frameCheck, headerCheck, fillCheck, totalsCheck, entryCheck, ruleRecordCheck, entryOf, edgeRecordCheck, deckCheck, readCheck, rulesOf, edgesOf}
 use Rattle.deck.specs.Stages.{recordsCheck}

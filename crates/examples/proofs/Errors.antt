@@ -38,11 +38,11 @@ pub depth-not-passes : (after 2 (after 2 start pass) pass ≡ final) × (changes
 unfolding final start pass rules edges word joined cell candidate offer step wins askOf stepsOf tab first isEdge lowestEdge isLeaf leafWord startWord startTable
 depth-not-passes = (refl, refl, refl)
 
--- cell (1, 0, 0) holds rule 4, found first, for rule 2
+-- "Steps in list order fill some cells too high at first": so (0, 1, 1), and it stays
 pub first-tree-wrong : ¬ FinalTable loop byFirstTree
 unfolding final byFirstTree firstTree start pass rules edges word joined cell candidate offer step wins askOf stepsOf tab first isEdge lowestEdge isLeaf leafWord startWord startTable
 first-tree-wrong f =
-    let e : key 4 1 4 ≡ key 4 1 2 = final-tables byFirstTree final f is-final 1 0 0 (omega arith) (omega arith) (omega arith) in
+    let e : key 6 0 3 ≡ key 5 1 3 = final-tables byFirstTree final f is-final 0 1 1 (omega arith) (omega arith) (omega arith) in
     absurd (omega (arith, e))
 
 -- cell (0, 0, 1), of height 3, is found in pass 2

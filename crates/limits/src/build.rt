@@ -14,7 +14,7 @@ pub struct Sizes {
     pub query: u16,
 }
 
-pub fn numbers(
+pub(crate) fn numbers(
     nodes: u16,
     nonterminals: u16,
     labels: u16,
@@ -35,12 +35,12 @@ pub fn numbers(
 }
 
 // Word w of block b.
-pub fn put(deck: &mut [u8], b: u16, w: u16, x: u16) {
+pub(crate) fn put(deck: &mut [u8], b: u16, w: u16, x: u16) {
     write16(deck, b as usize * 512 + 4 + 2 * w as usize, x);
 }
 
 // Type, records used and number of block b.
-pub fn head(deck: &mut [u8], b: u16, kind: u8, used: u8, number: u16) {
+pub(crate) fn head(deck: &mut [u8], b: u16, kind: u8, used: u8, number: u16) {
     let p = b as usize * 512;
     write16(deck, p, kind as u16 + used as u16 * 256);
     write16(deck, p + 2, number);
@@ -62,7 +62,7 @@ fn byte(deck: &[u8], p: usize) -> u32
 }
 
 // The check of block b, from its bytes as they stand.
-pub fn seal(deck: &mut [u8], b: u16) {
+pub(crate) fn seal(deck: &mut [u8], b: u16) {
     let p = b as usize * 512;
     let mut sum: u32 = 0;
     let mut i = 0;
@@ -116,7 +116,7 @@ fn records(deck: &mut [u8], first: u16, kind: u8, count: u16) -> u16
 }
 
 // The right deck of these numbers, into zeros; answers its bytes.
-pub fn build(deck: &mut [u8], s: Sizes) -> usize {
+pub(crate) fn build(deck: &mut [u8], s: Sizes) -> usize {
     header(deck, s);
     let rules = records(deck, 1, 2, s.entries);
     let edges = records(deck, rules, 3, s.rules);

@@ -25,7 +25,7 @@ fn tell(name: &[u8], deck: &[u8]) {
 }
 
 // Room for no rule, then for no edge.
-pub fn tell_short(deck: &[u8]) {
+pub(crate) fn tell_short(deck: &[u8]) {
     let mut one: [u16; 3] = [0; 3];
     let mut none: [u16; 2] = [0; 2];
     answered(b"2 words for 1 rule", read(deck, &mut none, &mut one));
@@ -33,7 +33,7 @@ pub fn tell_short(deck: &[u8]) {
 }
 
 // The deck of the first n bytes.
-pub fn tell_front(name: &[u8], deck: &[u8], n: usize) {
+pub(crate) fn tell_front(name: &[u8], deck: &[u8], n: usize) {
     if n <= deck.len() {
         tell(name, &deck[..n]);
     }

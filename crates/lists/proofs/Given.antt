@@ -2,21 +2,21 @@
 use mathlib.Core.Path.{_≡_, refl, sym}
 use mathlib.Core.List.{List, [], _∷_}
 use mathlib.Core.Logic.{_≢_, _↔_, Iff·rfl, Iff·and, Iff·trans}
-use mathlib.Core.Bool.{Bool}
+use mathlib.Core.Bool.{Bool, true}
 use Prim.Native.Nat.{ℕ, _/_, _%_, _≤_, _<_}
 use native.Mathlib.Omega.{arith}
 use lib.ListN.{length, getD}
-use lib.Dec.{eqb, leb}
-use borrow.Author.Tests.{leb-false, lt-leb}
+use lib.Dec.{eqb}
 use Rattle.words.specs.declared.Refusal.{Refusal}
 use Rattle.words.specs.declared.Check.{Check}
 use Rattle.words.specs.declared.Check.the-variants.{Good}
 use Rattle.words.specs.Refusals.{refused, must, _andThen_, scan}
-use Rattle.words.proofs.Refusals.{must-good, must-given, scan-good, and-assoc, Only, only-must, only-and, only-scan, and-first, and-second, LowestWrong, scan-must}
+use Rattle.words.proofs.Refusals.{must-good, scan-good, and-assoc, Only, only-must, only-and, only-scan, and-first, and-second, LowestWrong, scan-must}
 use Rattle.meaning.specs.Net.{word}
-use Rattle.lists.specs.Lists.{inLimits, rightRule, rightEdge, lengthsCheck, limitsCheck, ruleCheck, edgeCheck, listsCheck, roomCheck}
-use Rattle.lists.specs.declared.Numbers.{Numbers}
-use Rattle.lists.proofs.Right.{between-true}
+use Rattle.numbers.specs.Numbers.{inLimits, limitsCheck}
+use Rattle.lists.specs.Lists.{rightRule, rightEdge, wholeCheck, ruleCheck, edgeCheck, listsCheck}
+use Rattle.numbers.specs.declared.Numbers.{Numbers}
+use Rattle.numbers.proofs.Right.{between-true}
 
 -- ---- one refusal among others
 
@@ -71,9 +71,9 @@ module _ (numbers : Numbers) (rules edges : List ℕ) where
   abbrev C8 : Check
   C8 = each edged 8 (length edges / 3)
 
-  lengths-each : lengthsCheck (length rules) (length edges) ≡ C5
-  unfolding lengthsCheck scan _andThen_
-  lengths-each = refl
+  whole-each : wholeCheck (length rules) (length edges) ≡ C5
+  unfolding wholeCheck scan _andThen_
+  whole-each = refl
 
   limits-each : limitsCheck numbers (length rules) (length edges) ≡ C4
   unfolding limitsCheck scan must inLimits _andThen_
@@ -81,7 +81,7 @@ module _ (numbers : Numbers) (rules edges : List ℕ) where
 
   lists-each : listsCheck numbers rules edges ≡ C5 andThen C4 andThen C7 andThen C8
   unfolding listsCheck ruleCheck edgeCheck
-  lists-each = rw (lengths-each, limits-each)
+  lists-each = rw (whole-each, limits-each)
 
   -- no refusal of number l before C7, and none from C7 on
   before : (l : ℕ) → 5 ≢ l → 4 ≢ l → Only (λ r. r .number ≢ l) (C5 andThen C4)
@@ -102,27 +102,27 @@ module _ (numbers : Numbers) (rules edges : List ℕ) where
 
     -- "a header number outside its limits"
     pub given-4 : (listsCheck numbers rules edges ≡ refused 4 p)
-        ↔ ((lengthsCheck (length rules) (length edges) ≡ Good) × LowestWrong limited 6 p)
+        ↔ ((wholeCheck (length rules) (length edges) ≡ Good) × LowestWrong limited 6 p)
     given-4 =
-        rw (lists-each, lengths-each)
+        rw (lists-each, whole-each)
         (amid C5 (C7 andThen C8) limited 4 6 p (other whole 5 2 4 (omega arith)) (behind 4 (omega arith) (omega arith)))
 
     -- "rule with a nonterminal or label out of range"
     pub given-7 : (listsCheck numbers rules edges ≡ refused 7 p)
-        ↔ ((lengthsCheck (length rules) (length edges) andThen limitsCheck numbers (length rules) (length edges) ≡ Good)
+        ↔ ((wholeCheck (length rules) (length edges) andThen limitsCheck numbers (length rules) (length edges) ≡ Good)
         × LowestWrong ruled (length rules / 3) p)
     given-7 =
-        rw (lists-each, lengths-each, limits-each, ← and-assoc C5 C4 (C7 andThen C8))
+        rw (lists-each, whole-each, limits-each, ← and-assoc C5 C4 (C7 andThen C8))
         (amid (C5 andThen C4) C8 ruled 7 _ p (before 7 (omega arith) (omega arith)) (other edged 8 _ 7 (omega arith)))
 
     -- "edge node out of range; in a list also its label"
     pub given-8 : (listsCheck numbers rules edges ≡ refused 8 p)
-        ↔ (((lengthsCheck (length rules) (length edges) andThen limitsCheck numbers (length rules) (length edges))
+        ↔ (((wholeCheck (length rules) (length edges) andThen limitsCheck numbers (length rules) (length edges))
         andThen scan (ruleCheck numbers rules) (length rules / 3) ≡ Good)
         × LowestWrong edged (length edges / 3) p)
     unfolding ruleCheck
     given-8 =
-        rw (lists-each, lengths-each, limits-each, ← and-assoc C5 C4 (C7 andThen C8), ← and-assoc (C5 andThen C4) C7 C8)
+        rw (lists-each, whole-each, limits-each, ← and-assoc C5 C4 (C7 andThen C8), ← and-assoc (C5 andThen C4) C7 C8)
         (Iff·trans
         (and-second _ C8 8 p
         (only-and _ (C5 andThen C4) C7 (before 8 (omega arith) (omega arith)) (λ _. other ruled 7 _ 8 (omega arith))))
@@ -148,9 +148,3 @@ module _ (numbers : Numbers) (rules edges : List ℕ) where
   -- so a number above 8 is an engine call's own
   pub lists-other : (l : ℕ) → 8 < l → Only (λ r. r .number ≢ l) (listsCheck numbers rules edges)
   lists-other l h r e = let g = given-only r e in omega arith
-
--- "a lent buffer too short"
-pub room-given : (place want have p : ℕ) → (roomCheck place want have ≡ refused 10 p) ↔ ((have < want) × (p ≡ place))
-unfolding roomCheck
-room-given place want have p =
-    Iff·trans (must-given (leb want have) 10 place p) (Iff·and (λ e. leb-false _ _ e, λ h. lt-leb _ _ h) Iff·rfl)

@@ -1,36 +1,24 @@
 -- What accepted lists are good for: document 01's limits, each rule and edge in range, and a net that the theorems take. Assumes nothing.
-use mathlib.Core.Path.{_≡_, refl, sym, _∙_}
+use mathlib.Core.Path.{_≡_, sym, _∙_}
 use mathlib.Core.List.{List}
 use mathlib.Core.Logic.{_≢_, _↔_}
-use mathlib.Core.Bool.{Bool, true, false, _&&_, false≢true}
+use mathlib.Core.Bool.{true, _&&_}
 use Prim.Native.Nat.{ℕ, _/_, _%_, _≤_, _<_}
 use native.Mathlib.Omega.{arith}
 use lib.ListN.{length}
-use lib.Dec.{eqb, leb, ltb}
-use borrow.Author.Tests.{ltb-true, leb-true, eqb-true, eqb-false, lt-ltb, le-leb, eq-eqb, ne-eqb}
+use lib.Dec.{eqb, ltb}
+use borrow.Author.Tests.{ltb-true, eqb-true, eqb-false, lt-ltb, eq-eqb, ne-eqb}
 use borrow.Table.Steps.{cases}
 use Rattle.words.specs.declared.Check.the-variants.{Good}
-use Rattle.words.proofs.Refusals.{must-good, and-good, scan-good}
+use Rattle.words.proofs.Refusals.{both, must-good, and-good, scan-good}
 use Rattle.meaning.specs.Net.{word, Sane}
 use Rattle.meaning.proofs.Cells.{cells-few}
-use Rattle.lists.specs.Lists.{net, cellsOf, between, inLimits, rightRule, rightEdge, lengthsCheck, limitsCheck, ruleCheck, edgeCheck, listsCheck, roomCheck}
-use Rattle.lists.specs.declared.Numbers.{Numbers}
+use Rattle.numbers.specs.Numbers.{cellsOf, between, inLimits, limitsCheck}
+use Rattle.lists.specs.Lists.{net, rightRule, rightEdge, wholeCheck, ruleCheck, edgeCheck, listsCheck}
+use Rattle.numbers.specs.declared.Numbers.{Numbers}
+use Rattle.numbers.proofs.Right.{Between, between-true}
 
 -- ---- tests as facts
-
-pub both : (a b : Bool) → (a && b ≡ true) ↔ ((a ≡ true) × (b ≡ true))
-both true b = (λ e. (refl, e), λ h. h .1)
-both false b = (λ e. absurd (false≢true e), λ h. h .0)
-
-pub record Between (a b x : ℕ) : Type 0 where
-  pub low : a ≤ x
-  pub high : x ≤ b
-
-pub between-true : (a b x : ℕ) → (between a b x ≡ true) ↔ Between a b x
-between-true a b x = (
-  λ e. let h = both (leb a x) (leb x b) .0 e in record { low = leb-true _ _ (h .0); high = leb-true _ _ (h .1) },
-  λ h. both (leb a x) (leb x b) .1 (le-leb _ _ (h .low), le-leb _ _ (h .high)),
-)
 
 -- (a, b, c) is a rule in range
 pub record RuleIn (numbers : Numbers) (a b c : ℕ) : Type 0 where
@@ -84,13 +72,6 @@ right-edge numbers i x j =
       λ h. a .1 (b .1 (lt-ltb _ _ (h .from), l .1 (h .label)), lt-ltb _ _ (h .to)),
     )
 
--- a buffer is long enough
-pub room-good : (place want have : ℕ) → (roomCheck place want have ≡ Good) ↔ (want ≤ have)
-unfolding roomCheck
-room-good place want have =
-    let m = must-good (leb want have) 10 place in
-    (λ e. leb-true _ _ (m .0 e), λ h. m .1 (le-leb _ _ h))
-
 -- ---- accepted lists
 
 pub record RightLists (numbers : Numbers) (rules edges : List ℕ) : Type 0 where
@@ -107,9 +88,9 @@ pub record RightLists (numbers : Numbers) (rules edges : List ℕ) : Type 0 wher
 module _ (numbers : Numbers) (rules edges : List ℕ) where
   -- the check is good exactly if the lists are right
   pub accepted : listsCheck numbers rules edges ≡ Good → RightLists numbers rules edges
-  unfolding listsCheck lengthsCheck limitsCheck ruleCheck edgeCheck inLimits
+  unfolding listsCheck wholeCheck limitsCheck ruleCheck edgeCheck inLimits
   accepted e =
-      let a = and-good (lengthsCheck (length rules) (length edges)) _ .0 e in
+      let a = and-good (wholeCheck (length rules) (length edges)) _ .0 e in
       let b = and-good (limitsCheck numbers (length rules) (length edges)) _ .0 (a .1) in
       let c = and-good _ _ .0 (b .1) in
       let w = and-good _ _ .0 (a .0) in
@@ -130,7 +111,7 @@ module _ (numbers : Numbers) (rules edges : List ℕ) where
       }
 
   pub accepting : RightLists numbers rules edges → listsCheck numbers rules edges ≡ Good
-  unfolding listsCheck lengthsCheck limitsCheck ruleCheck edgeCheck inLimits
+  unfolding listsCheck wholeCheck limitsCheck ruleCheck edgeCheck inLimits
   accepting ok =
       and-good _ _ .1 (
         and-good _ _ .1 (must-good _ _ _ .1 (eq-eqb _ _ (ok .whole-rules)), must-good _ _ _ .1 (eq-eqb _ _ (ok .whole-edges))),

@@ -1,18 +1,17 @@
 -- Sequences of steps: no word rises, what one possible step keeps all keep, and the total falls where one changes the table.
 -- Assumes nothing.
-use mathlib.Core.Path.{_≡_, refl, _∙_}
-use mathlib.Core.List.{List, [], _∷_, _++_}
+use mathlib.Core.Path.{_≡_, refl, sym, _∙_}
+use mathlib.Core.List.{List, [], _∷_, _++_, flatten}
 use mathlib.Core.Bool.{Bool, true, false}
-use Prim.Native.Nat.{ℕ, zero, suc, _+_, _≤_, _<_}
+use Prim.Native.Nat.{ℕ, zero, suc, _≤_, _<_}
 use native.Mathlib.Omega.{arith}
 use native.Mathlib.Nat.{le-refl}
 use lib.ListN.{length, getD}
-use Rattle.key.specs.Keys.{EMPTY}
 use Rattle.meaning.specs.Net.{Net, Sane}
 use Rattle.meaning.specs.Table.{cell, SoundTable, HoldsLeaves, High}
-use Rattle.meaning.specs.Steps.{Step, Possible, targetOf, leftOf, offer, step, wins, after, All}
+use Rattle.meaning.specs.Steps.{Step, Possible, step, wins, after, afterAll, All}
 use Rattle.meaning.specs.Passes.{each, changes}
-use Rattle.meaning.proofs.Steps.{step-length, step-falls, step-keeps, wins-false, keeps-wins, offer-left, step-sound, step-high}
+use Rattle.meaning.proofs.Steps.{step-length, step-falls, step-keeps, wins-false, step-sound, step-high}
 
 module _ (P : Step → Type 0) where
   pub all-append : (ss ss′ : List Step) → All P ss → All P ss′ → All P (ss ++ ss′)
@@ -27,6 +26,12 @@ module _ (n : ℕ) where
   pub after-append : (t : List ℕ) (ss ss′ : List Step) → after n t (ss ++ ss′) ≡ after n (after n t ss) ss′
   after-append t [] ss′ = refl
   after-append t (s ∷ ss) ss′ = after-append (step n t s) ss ss′
+
+  -- several stretches in turn are their steps in turn
+  pub after-all : (t : List ℕ) (pp : List (List Step)) → afterAll n t pp ≡ after n t (flatten pp)
+  unfolding flatten
+  after-all t [] = refl
+  after-all t (ss ∷ pp) = after-all (after n t ss) pp ∙ sym (after-append t ss (flatten pp))
 
   pub after-length : (t : List ℕ) (ss : List Step) → length (after n t ss) ≡ length t
   after-length t [] = refl
@@ -45,13 +50,6 @@ module _ (n : ℕ) where
       go : (b : Bool) → wins n t s ≡ b → (changes n (step n t s) ss ≡ false → after n (step n t s) ss ≡ step n t s) → after n (step n t s) ss ≡ t
       go true w ih = let z : _≡_ {A = ℕ} 0 1 = cc in absurd (omega arith)
       go false w ih = ih (rw w at e) ∙ step-keeps n t s (wins-false n t s w)
-
-  -- steps whose left side is empty change nothing
-  pub changes-empty : (t : List ℕ) → ((c : ℕ) → getD t c 0 ≤ EMPTY) → (ss : List Step) → All (λ s. EMPTY ≤ getD t (leftOf n s) 0) ss → changes n t ss ≡ false
-  changes-empty t few [] h = refl
-  changes-empty t few (s ∷ ss) h =
-      let l : getD t (targetOf n s) 0 ≤ offer n t s = omega (arith, few (targetOf n s), offer-left n t s (h .0)) in
-      rw (keeps-wins n t s l, step-keeps n t s l) (changes-empty t few ss (h .1))
 
 module _ {g : Net} (ok : Sane g) where
   pub after-sound : (t : List ℕ) (ss : List Step) → All (Possible g) ss → SoundTable g t → SoundTable g (after (g .nodes) t ss)

@@ -13,6 +13,7 @@ use Rattle.key.specs.Keys.{EMPTY, heightOf, middleOf, ruleOf}
 use Rattle.words.specs.First.{first}
 use Rattle.words.specs.Tab.{tab}
 use Rattle.words.proofs.First.{first-here, first-lowest}
+use Rattle.words.proofs.Refusals.{both}
 use Rattle.words.proofs.Tab.{length-tab, getD-tab}
 use Rattle.meaning.specs.Net.{Net, Sane, netOf, Edge, PairRule, LabelRule, word}
 use Rattle.meaning.specs.Trees.{joined}
@@ -21,14 +22,14 @@ use Rattle.meaning.specs.Lengths.{RightCell, Recorded}
 use Rattle.meaning.specs.Computed.{lowestEdge, isPair, isLeaf, leafWord, startWord, startTable, rightSides, rightWord, rightCell, pathOf}
 use Rattle.meaning.proofs.Cells.{numbers-cells}
 use Rattle.meaning.proofs.Start.{leaf-low}
-use Rattle.meaning.proofs.Edges.{and-both, found-lowest, lowest-found, lowest-one}
+use Rattle.meaning.proofs.Edges.{found-lowest, lowest-found, lowest-one}
 
 module _ {rules : List ℕ} {r A : ℕ} where
   pub pair-true : isPair rules A r ≡ true → PairRule rules r A (word rules r 1) (word rules r 2)
   unfolding isPair
   pair-true e =
-      let a = and-both (ltb r (length rules / 3)) (eqb (word rules r 0) A && not (eqb (word rules r 2) 65535)) e in
-      let b = and-both (eqb (word rules r 0) A) (not (eqb (word rules r 2) 65535)) (a .1) in
+      let a = both (ltb r (length rules / 3)) (eqb (word rules r 0) A && not (eqb (word rules r 2) 65535)) .0 e in
+      let b = both (eqb (word rules r 0) A) (not (eqb (word rules r 2) 65535)) .0 (a .1) in
       record {
         inside = ltb-true _ _ (a .0);
         head = eqb-true _ _ (b .0);
@@ -48,9 +49,9 @@ module _ {rules edges : List ℕ} {A i j r : ℕ} where
   leaf-true e =
       let x = word rules r 1 in
       let f = lowestEdge edges i x j in
-      let a = and-both (ltb r (length rules / 3)) (eqb (word rules r 0) A && (eqb (word rules r 2) 65535 && ltb f (length edges / 3))) e in
-      let b = and-both (eqb (word rules r 0) A) (eqb (word rules r 2) 65535 && ltb f (length edges / 3)) (a .1) in
-      let c = and-both (eqb (word rules r 2) 65535) (ltb f (length edges / 3)) (b .1) in (
+      let a = both (ltb r (length rules / 3)) (eqb (word rules r 0) A && (eqb (word rules r 2) 65535 && ltb f (length edges / 3))) .0 e in
+      let b = both (eqb (word rules r 0) A) (eqb (word rules r 2) 65535 && ltb f (length edges / 3)) .0 (a .1) in
+      let c = both (eqb (word rules r 2) 65535) (ltb f (length edges / 3)) .0 (b .1) in (
         record { inside = ltb-true _ _ (a .0); head = eqb-true _ _ (b .0); label = refl; mark = eqb-true _ _ (c .0) },
         found-lowest edges i x j (ltb-true _ _ (c .1)) .edge,
       )
@@ -119,8 +120,8 @@ module _ (n m : ℕ) (rules edges t ls : List ℕ) (A i j : ℕ) where
 
   right-leaf : heightOf v ≡ 1 → isLeaf rules edges A i j (ruleOf v) && (eqb (middleOf v) i && eqb l 1) ≡ true → RightCell g t ls A i j
   right-leaf h e =
-      let a = and-both (isLeaf rules edges A i j (ruleOf v)) (eqb (middleOf v) i && eqb l 1) e in
-      let b = and-both (eqb (middleOf v) i) (eqb l 1) (a .1) in
+      let a = both (isLeaf rules edges A i j (ruleOf v)) (eqb (middleOf v) i && eqb l 1) .0 e in
+      let b = both (eqb (middleOf v) i) (eqb l 1) .0 (a .1) in
       let w = leaf-true (a .0) in
       RightCell.leaf (word rules (ruleOf v) 1) (lowestEdge edges i (word rules (ruleOf v) 1) j) h (w .0) (eqb-true _ _ (b .0)) (w .1) (eqb-true _ _ (b .1))
 
@@ -128,10 +129,10 @@ module _ (n m : ℕ) (rules edges t ls : List ℕ) (A i j : ℕ) where
       → rightSides n t ls i j (heightOf v) l k B C ≡ true → RightCell g t ls A i j
   unfolding rightSides
   right-pair k B C f h p m e =
-      let a = and-both (ltb k n) _ e in
-      let b = and-both (ltb (at n t B i k) EMPTY) _ (a .1) in
-      let c = and-both (ltb (at n t C k j) EMPTY) _ (b .1) in
-      let d = and-both (eqb (heightOf v) (joined (heightOf (at n t B i k)) (heightOf (at n t C k j)))) _ (c .1) in
+      let a = both (ltb k n) _ .0 e in
+      let b = both (ltb (at n t B i k) EMPTY) _ .0 (a .1) in
+      let c = both (ltb (at n t C k j) EMPTY) _ .0 (b .1) in
+      let d = both (eqb (heightOf v) (joined (heightOf (at n t B i k)) (heightOf (at n t C k j)))) _ .0 (c .1) in
       RightCell.pair B C k f h p m (ltb-true _ _ (a .0)) (ltb-true _ _ (b .0)) (ltb-true _ _ (c .0)) (eqb-true _ _ (d .0)) (eqb-true _ _ (d .1))
 
   pub right-true : rightCell n rules edges t ls A i j ≡ true → RightCell g t ls A i j
@@ -139,9 +140,9 @@ module _ (n m : ℕ) (rules edges t ls : List ℕ) (A i j : ℕ) where
   right-true e =
       cases (eqb v EMPTY) (λ a. RightCell.empty (eqb-true _ _ a) (eqb-true _ _ (rw a at e))) (λ a.
       cases (eqb (heightOf v) 1) (λ b. right-leaf (eqb-true _ _ b) (rw (a, b) at e)) (λ b.
-      let c = and-both (ltb v EMPTY) _ (rw (a, b) at e) in
-      let d = and-both (ltb 1 (heightOf v)) _ (c .1) in
-      let f = and-both (isPair rules A (ruleOf v)) _ (d .1) in
+      let c = both (ltb v EMPTY) _ .0 (rw (a, b) at e) in
+      let d = both (ltb 1 (heightOf v)) _ .0 (c .1) in
+      let f = both (isPair rules A (ruleOf v)) _ .0 (d .1) in
       right-pair (middleOf v) _ _ (ltb-true _ _ (c .0)) (ltb-true _ _ (d .0)) (pair-true (f .0)) refl (f .1)))
 
   pub true-right : RightCell g t ls A i j → rightCell n rules edges t ls A i j ≡ true

@@ -1,13 +1,11 @@
 -- Demand 2: what a final table holds. Assumes nothing.
-use mathlib.Core.Path.{_≡_, refl, sym, ap, _∙_}
+use mathlib.Core.Path.{_≡_, refl, sym, _∙_}
 use mathlib.Core.List.{List}
 use mathlib.Core.Logic.{inl, inr, _↔_}
-use Prim.Native.Nat.{ℕ, _+_, _-_, _≤_, _<_}
+use Prim.Native.Nat.{ℕ, _<_}
 use native.Mathlib.Omega.{arith}
 use native.Mathlib.Nat.{le-antisymm}
-use native.Mathlib.Decide.{decLt}
-use lib.ListN.{length, getD, drop}
-use lib.Seq.{ext-getD, getD-drop}
+use lib.ListN.{drop}
 use Rattle.key.specs.Keys.{EMPTY, key, heightOf}
 use Rattle.meaning.specs.Net.{Net, Sane}
 use Rattle.meaning.specs.Trees.{joined, Reached, Least, Tree, leaf, pair, height, edgesOf, keyOf}
@@ -15,7 +13,7 @@ use Rattle.meaning.specs.Table.{at, cells, Each, LeafKey, Sound}
 use Rattle.meaning.specs.Final.{FinalCell, FinalTable, Candidate, Selected, byEdge, byRule}
 use Rattle.meaning.proofs.Joined.{joined-left, joined-mono}
 use Rattle.meaning.proofs.Trees.{reach-tree, tree-reach, tree-inside, height-pos, key-bounds}
-use Rattle.meaning.proofs.Cells.{cells-numbers}
+use Rattle.meaning.proofs.Fronts.{tables-same}
 use Rattle.meaning.proofs.Steps.{sound-real, real-height}
 use Rattle.meaning.proofs.Start.{leaf-tree}
 
@@ -35,15 +33,8 @@ pub final-tables : {g : Net} (t t′ : List ℕ) → FinalTable g t → FinalTab
 final-tables t t′ f f′ A i j hA hi hj = final-one (f .cell A i j hA hi hj) (f′ .cell A i j hA hi hj)
 
 -- so a call that promises a final table, and to keep the words past it, promises one list
-pub final-lists : {g : Net} (t t′ : List ℕ) → FinalTable g t → FinalTable g t′ → length t ≡ length t′ → drop (cells g) t ≡ drop (cells g) t′ → t ≡ t′
-final-lists {g} t t′ f f′ long past = ext-getD 0 t t′ long (λ c l. go c (decLt c (cells g)))
-  where
-    beyond : (l : List ℕ) (c : ℕ) → cells g ≤ c → getD l c 0 ≡ getD (drop (cells g) l) (c - cells g) 0
-    beyond l c h = let e : cells g + (c - cells g) ≡ c = omega arith in rw (getD-drop (cells g) l (c - cells g) 0, e)
-
-    go : (c : ℕ) → Dec (c < cells g) → getD t c 0 ≡ getD t′ c 0
-    go c (yes h) = final-one (cells-numbers g t (FinalCell g) (f .cell) c h) (cells-numbers g t′ (FinalCell g) (f′ .cell) c h)
-    go c (no h) = let l : cells g ≤ c = omega arith in beyond t c l ∙ ap (λ x. getD x (c - cells g) 0) past ∙ sym (beyond t′ c l)
+pub final-lists : {g : Net} (t t′ : List ℕ) → FinalTable g t → FinalTable g t′ → drop (cells g) t ≡ drop (cells g) t′ → t ≡ t′
+final-lists {g} t t′ f f′ = tables-same g t t′ (f .long) (f′ .long) (final-tables t t′ f f′)
 
 -- document 01 selects one key at most
 pub selected-one : {g : Net} {A i j κ κ′ : ℕ} → Selected g A i j κ → Selected g A i j κ′ → κ ≡ κ′

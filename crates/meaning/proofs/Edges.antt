@@ -1,20 +1,17 @@
 -- The lowest edge with given ends and label is the one that a search finds first. Assumes nothing.
 use mathlib.Core.Path.{_≡_, refl}
 use mathlib.Core.List.{List}
-use mathlib.Core.Bool.{Bool, true, false, _&&_, false≢true}
+use mathlib.Core.Bool.{true, _&&_}
 use Prim.Native.Nat.{ℕ, _/_, _≤_, _<_}
 use native.Mathlib.Omega.{arith}
 use lib.ListN.{length}
 use lib.Dec.{eqb}
 use borrow.Author.Tests.{eqb-true, eq-eqb}
 use Rattle.words.proofs.First.{first-here, first-lowest}
+use Rattle.words.proofs.Refusals.{both}
 use Rattle.meaning.specs.Net.{Edge, word}
 use Rattle.meaning.specs.Lengths.{LowestEdge}
 use Rattle.meaning.specs.Computed.{isEdge, lowestEdge}
-
-pub and-both : (a b : Bool) → a && b ≡ true → (a ≡ true) × (b ≡ true)
-and-both true b e = (refl, e)
-and-both false b e = absurd (false≢true e)
 
 module _ (edges : List ℕ) (i x j : ℕ) where
   pub edge-test : {e : ℕ} → Edge edges e i x j → isEdge edges i x j e ≡ true
@@ -24,8 +21,8 @@ module _ (edges : List ℕ) (i x j : ℕ) where
   pub test-edge : (e : ℕ) → e < length edges / 3 → isEdge edges i x j e ≡ true → Edge edges e i x j
   unfolding isEdge
   test-edge e l t =
-      let a = and-both (eqb (word edges e 0) i) (eqb (word edges e 1) x && eqb (word edges e 2) j) t in
-      let b = and-both (eqb (word edges e 1) x) (eqb (word edges e 2) j) (a .1) in
+      let a = both (eqb (word edges e 0) i) (eqb (word edges e 1) x && eqb (word edges e 2) j) .0 t in
+      let b = both (eqb (word edges e 1) x) (eqb (word edges e 2) j) .0 (a .1) in
       record { inside = l; from = eqb-true _ _ (a .0); label = eqb-true _ _ (b .0); to = eqb-true _ _ (b .1) }
 
   none-lower : (e : ℕ) → Edge edges e i x j → lowestEdge edges i x j ≤ e

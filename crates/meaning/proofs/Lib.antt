@@ -11,6 +11,7 @@ pub mod Passes
 pub mod Start
 pub mod Demand2
 pub mod Demand3
+pub mod Depth
 pub mod Heights
 pub mod PassOf
 pub mod Fronts

@@ -18,7 +18,7 @@ use Rattle.meaning.proofs.Steps.{step-length, step-falls}
 use Rattle.meaning.proofs.After.{all-each, after-falls, changes-none}
 
 -- the step of a pair rule is the one that its number asks for
-ask-is : {rules : List ℕ} (s : Step) → PairRule rules (s .rule) (s .head) (s .left) (s .right)
+pub ask-is : {rules : List ℕ} (s : Step) → PairRule rules (s .rule) (s .head) (s .left) (s .right)
     → s ≡ askOf rules (s .rule) (s .from) (s .middle) (s .to)
 unfolding askOf
 ask-is s c = λ x. record {

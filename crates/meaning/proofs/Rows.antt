@@ -26,7 +26,7 @@ same-bit v w j a b = go (ℕ-discrete (bit v j) 1) (ℕ-discrete (bit w j) 1)
     go (no x) (no y) = omega arith
 
 -- each number below the count of rows is a row's
-row-back : (n m c : ℕ) → c < m * n → (c / n * n + c % n ≡ c) × (c / n < m) × (c % n < n)
+pub row-back : (n m c : ℕ) → c < m * n → (c / n * n + c % n ≡ c) × (c / n < m) × (c % n < n)
 row-back n m c h = go (ℕ-discrete n 0)
   where
     go : Dec (n ≡ 0) → (c / n * n + c % n ≡ c) × (c / n < m) × (c % n < n)

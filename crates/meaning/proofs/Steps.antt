@@ -8,7 +8,7 @@ use native.Mathlib.Omega.{arith}
 use native.Mathlib.Decide.{ℕ-discrete, decLt}
 use lib.ListN.{length, getD, set, length-set}
 use lib.Seq.{getD-set-same, getD-set-other, set-getD, set-out}
-use borrow.Author.Tests.{ltb-false, le-ltb}
+use borrow.Author.Tests.{ltb-false}
 use Rattle.key.specs.Keys.{EMPTY, heightOf}
 use Rattle.meaning.specs.Net.{Net, Sane, InPair}
 use Rattle.meaning.specs.Trees.{joined, Tree, pair, height, keyOf}
@@ -16,7 +16,7 @@ use Rattle.meaning.specs.Table.{cell, at, cells, Each, Real, Sound, Soun
 use Rattle.meaning.specs.Steps.{Step, Possible, candidate, targetOf, leftOf, rightOf, offer, step, wins}
 use Rattle.meaning.proofs.Joined.{joined-next}
 use Rattle.meaning.proofs.Trees.{key-height}
-use Rattle.meaning.proofs.Cells.{cell-same, cell-in, Given, candidate-left, candidate-cases}
+use Rattle.meaning.proofs.Cells.{cell-same, cell-in, Given, candidate-cases}
 use Rattle.meaning.proofs.Sums.{filled-falls, filled-more}
 
 module _ (n : ℕ) (t : List ℕ) (s : Step) where
@@ -48,15 +48,6 @@ module _ (n : ℕ) (t : List ℕ) (s : Step) where
   pub wins-false : wins n t s ≡ false → getD t (targetOf n s) 0 ≤ offer n t s
   unfolding wins
   wins-false e = ltb-false _ _ e
-
-  pub keeps-wins : getD t (targetOf n s) 0 ≤ offer n t s → wins n t s ≡ false
-  unfolding wins
-  keeps-wins h = le-ltb _ _ h
-
-  -- a step whose left side is empty, or whose right side is, offers nothing
-  pub offer-left : EMPTY ≤ getD t (leftOf n s) 0 → offer n t s ≡ EMPTY
-  unfolding offer
-  offer-left h = candidate-left _ _ (s .middle) (s .rule) h
 
   step-out : length t ≤ targetOf n s → step n t s ≡ t
   unfolding step

@@ -2,13 +2,15 @@
 -- Assumes nothing.
 use mathlib.Core.Path.{_≡_, refl, sym, ap, ap₂, _∙_, subst}
 use mathlib.Core.List.{List, [], _∷_, _++_}
-use Prim.Native.Nat.{ℕ, _+_, _*_, _≤_, _<_}
+use Prim.Native.Nat.{ℕ, _+_, _*_, _^_, _≤_, _<_}
 use native.Mathlib.Omega.{arith}
+use native.Mathlib.Nat.{pow-suc}
 use lib.ListN.{length, length-append}
+use lib.Pow.{pow-mono}
 use Rattle.key.specs.Keys.{key, heightOf, middleOf, ruleOf}
 use Rattle.meaning.specs.Net.{Net, Sane, word}
 use Rattle.meaning.specs.Trees.{joined, Derives, byLabel, byPair, Path, spell, Reach, Tree, leaf, pair, height, edgesOf, keyOf}
-use Rattle.meaning.proofs.Joined.{joined-left, joined-sum}
+use Rattle.meaning.proofs.Joined.{joined-left, joined-right, joined-sum}
 
 module _ (g : Net) where
   pub path-append : (i k j : ℕ) (p q : List ℕ) → Path g i k p → Path g k j q → Path g i j (p ++ q)
@@ -108,6 +110,14 @@ module _ {g : Net} where
   edges-many (pair r k l s t) =
       let sum = joined-sum (height s) (height t) (height-pos s) (height-pos t) in
       omega (arith, edges-many s, edges-many t, length-append (edgesOf s) (edgesOf t))
+
+  -- "The length may double with each level of height": and it does no more than that
+  pub edges-few : {A i j : ℕ} (τ : Tree g A i j) → 2 * length (edgesOf τ) ≤ 2 ^ height τ
+  edges-few (leaf r e l d) = omega arith
+  edges-few (pair r k l s t) =
+      let left = pow-mono (joined-left (height s) (height t)) in
+      let right = pow-mono (joined-right (height s) (height t)) in
+      omega (arith, edges-few s, edges-few t, length-append (edgesOf s) (edgesOf t), pow-suc 2 (height s), pow-suc 2 (height t))
 
   module _ (ok : Sane g) where
     pub tree-inside : {A i j : ℕ} → Tree g A i j → Inside g A i j

@@ -8,7 +8,7 @@ use lib.ListN.{length, getD}
 use lib.Dec.{ltb}
 use Rattle.key.specs.Keys.{EMPTY, heightOf, middleOf, ruleOf}
 use Rattle.meaning.specs.Net.{Net, Edge}
-use Rattle.meaning.specs.Trees.{joined}
+use Rattle.meaning.specs.Trees.{joined, Least}
 use Rattle.meaning.specs.Table.{at, cells, Each}
 
 abbrev pub HELD : ℕ
@@ -35,6 +35,11 @@ pub record Lengths (g : Net) (t ls : List ℕ) : Type 0 where
 abbrev pub depth : List ℕ → ℕ → ℕ
 depth t zero = 0
 depth t (suc c) = max (depth t c) (cond (ltb (getD t c 0) EMPTY) (heightOf (getD t c 0)) 0)
+
+-- d is that over demand 2's cells: no least height is above it, and it is one unless it is 0
+pub record Deepest (g : Net) (d : ℕ) : Type 0 where
+  pub bound : Each g (λ A i j. (h : ℕ) → Least g A i j h → h ≤ d)
+  pub reached : 0 < d → (A : ℕ) × ((i : ℕ) × ((j : ℕ) × Least g A i j d))
 
 -- "every cell is empty with length 0, or: at height 1, its rule is a label rule for A, its middle is i and such an edge exists;
 -- at greater height, its rule is a pair rule for A, its middle is a node, both sides are filled, 1 + the larger height is its height,

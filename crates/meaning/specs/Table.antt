@@ -75,6 +75,6 @@ filled t c = sum (λ a. cond (ltb (getD t a 0) EMPTY) 1 0) c
 abbrev pub total : List ℕ → ℕ → ℕ
 total t c = sum (λ a. getD t a 0) c
 
--- "no height exceeds the number of filled cells"
+-- no height exceeds the number of filled cells
 pub record High (g : Net) (t : List ℕ) : Type 0 where
   pub cell : Each g (λ A i j. at (g .nodes) t A i j < EMPTY → heightOf (at (g .nodes) t A i j) ≤ filled t (cells g))

@@ -1,6 +1,7 @@
 // What document 01 means, and the mathematics that every engine cites: definitions in specs/, theorems in proofs/.
-// The only code is that of four definitions: a word of a list, a cell's number, a pair's height and a pair's length.
+// The only code is that of a few definitions: a list's word, a cell's number, its key and its length, a pair's height and length.
 ghost use mathlib.Core.Path.{_≡_};
+ghost use lib.ListN.{getD};
 ghost use Rattle.meaning.specs.Net.{word as wordOf};
 ghost use Rattle.meaning.specs.Table.{cell as cellOf};
 ghost use Rattle.meaning.specs.Trees.{joined};
@@ -30,6 +31,26 @@ pub fn cell(nodes: u16, a: u16, i: u16, j: u16) -> usize
 {
     let n = nodes as usize;
     (a as usize * n + i as usize) * n + j as usize
+}
+
+// Word c of a table, 0 past the end.
+pub fn key_at(table: &[u64], c: usize) -> u64
+    ensures { λ x. ⌜ x ≡ getD (now (table .entry)) c 0 ⌝ }
+{
+    if table.len() <= c {
+        return 0;
+    }
+    table[c]
+}
+
+// Word c of lengths, 0 past the end.
+pub fn length_at(lengths: &[u32], c: usize) -> u32
+    ensures { λ x. ⌜ x ≡ getD (now (lengths .entry)) c 0 ⌝ }
+{
+    if lengths.len() <= c {
+        return 0;
+    }
+    lengths[c]
 }
 
 // 1 + the larger of two heights, which may be 2^32.

@@ -4,10 +4,11 @@ use mathlib.Core.List.{List}
 use Prim.Native.Nat.{ℕ, _/_, _≤_, _<_, min}
 use native.Mathlib.Omega.{arith}
 use lib.ListN.{length, getD, take, replicate, length-replicate}
-use lib.Seq.{take-at, take-all}
+use lib.Seq.{take-all}
 use Rattle.words.specs.declared.Check.{Check}
 use Rattle.words.specs.declared.Check.the-variants.{Good, Bad}
 use Rattle.words.specs.Tab.{over}
+use Rattle.words.proofs.Tab.{take-over}
 use Rattle.packing.specs.Packed.{unpacked, packed, unpackedInto, packedInto}
 use Rattle.packing.proofs.Packed.{repacked}
 use Rattle.meaning.specs.Net.{Net}
@@ -25,8 +26,7 @@ cells-within words h e = omega arith
 
 -- what is unpacked into an array t, up to the last word that fits
 front : (k : ℕ) (s t u : List ℕ) (n : ℕ) → u ≡ unpackedInto k s t → n ≡ min (length s / k) (length t) → take n u ≡ unpacked k s n
-unfolding over
-front k s t u n e h = rw (e, ← h) (take-at (unpacked k s n) _ n (length-unpacked k s n))
+front k s t u n e h = rw (e, ← h) (take-over (unpacked k s n) t n (length-unpacked k s n))
 
 -- the words of a whole list, in an array of m words
 pub lists-front : (k : ℕ) (s u : List ℕ) (m : ℕ) → u ≡ unpackedInto k s (replicate m 0) → length s / k ≤ m → take (length s / k) u ≡ wordsOf k s

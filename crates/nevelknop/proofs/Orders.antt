@@ -15,10 +15,11 @@ use Rattle.words.specs.Refusals.{_andThen_}
 use Rattle.packing.specs.Packed.{unpacked}
 use Rattle.words.proofs.Refusals.{must-good, and-good, and-bad, and-next, and-stop, and-assoc}
 use Rattle.words.proofs.Tab.{length-tab}
-use Rattle.lists.specs.declared.Numbers.{Numbers}
-use Rattle.lists.specs.Lists.{inLimits, lengthsCheck, limitsCheck, listsCheck}
-use Rattle.lists.proofs.Right.{between-true}
-use Rattle.nevelknop.specs.Calls.{wordsOf, recordsCheck, largeCheck, callCheck}
+use Rattle.numbers.specs.declared.Numbers.{Numbers}
+use Rattle.numbers.specs.Numbers.{inLimits, limitsCheck, largeCheck}
+use Rattle.lists.specs.Lists.{wholeCheck, listsCheck}
+use Rattle.numbers.proofs.Right.{between-true}
+use Rattle.nevelknop.specs.Calls.{wordsOf, bytesCheck, callCheck}
 
 pub length-unpacked : (k : ℕ) (s : List ℕ) (n : ℕ) → length (unpacked k s n) ≡ n
 unfolding unpacked
@@ -30,8 +31,8 @@ pub record Whole (rules edges : ℕ) : Type 0 where
   pub rules-whole : rules % 6 ≡ 0
   pub edges-whole : edges % 6 ≡ 0
 
-whole : (rules edges : ℕ) → recordsCheck rules edges ≡ Good → Whole rules edges
-unfolding recordsCheck
+whole : (rules edges : ℕ) → bytesCheck rules edges ≡ Good → Whole rules edges
+unfolding bytesCheck
 whole rules edges e =
     let r = and-good _ _ .0 e in
     record { rules-whole = eqb-true _ _ (must-good _ _ _ .0 (r .0)); edges-whole = eqb-true _ _ (must-good _ _ _ .0 (r .1)) }
@@ -52,7 +53,7 @@ pub record Counted (rules edges : ℕ) : Type 0 where
 
 module _ (numbers : Numbers) (rules edges : ℕ) where
   abbrev pub counts : Check
-  counts = recordsCheck rules edges andThen limitsCheck numbers (rules / 2) (edges / 2)
+  counts = bytesCheck rules edges andThen limitsCheck numbers (rules / 2) (edges / 2)
 
   pub counted : counts ≡ Good → Counted rules edges
   counted e =
@@ -63,7 +64,7 @@ module _ (numbers : Numbers) (rules edges : ℕ) where
 
 module _ (numbers : Numbers) (rules edges : List ℕ) (own : Check) where
   abbrev call : Check
-  call = callCheck (recordsCheck (length rules) (length edges)) numbers (wordsOf 2 rules) (wordsOf 2 edges) own
+  call = callCheck (bytesCheck (length rules) (length edges)) numbers (wordsOf 2 rules) (wordsOf 2 edges) own
 
   pub counts-good : counts numbers (length rules) (length edges) ≡ Good
       → call ≡ callCheck Good numbers (wordsOf 2 rules) (wordsOf 2 edges) own
@@ -73,7 +74,7 @@ module _ (numbers : Numbers) (rules edges : List ℕ) (own : Check) where
   -- whole records of bytes are whole records of words: 5 passes there, and 4 is the first
   lists-bad : {r : Refusal} → Whole (length rules) (length edges)
       → limitsCheck numbers (length rules / 2) (length edges / 2) ≡ Bad r → listsCheck numbers (wordsOf 2 rules) (wordsOf 2 edges) ≡ Bad r
-  unfolding listsCheck lengthsCheck
+  unfolding listsCheck wholeCheck
   lists-bad w b =
       let hr : eqb (length rules / 2 % 3) 0 ≡ true = eq-eqb (length rules / 2 % 3) 0 (omega arith) in
       let he : eqb (length edges / 2 % 3) 0 ≡ true = eq-eqb (length edges / 2 % 3) 0 (omega arith) in

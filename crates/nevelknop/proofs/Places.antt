@@ -13,8 +13,9 @@ use Rattle.words.specs.Refusals.{must}
 use Rattle.words.proofs.Refusals.{Only, only-must, only-and, only-scan, and-good}
 use Rattle.meaning.specs.Table.{cell}
 use Rattle.meaning.proofs.Cells.{cell-in}
-use Rattle.lists.specs.declared.Numbers.{Numbers}
-use Rattle.lists.specs.Lists.{net, limitsCheck, listsCheck, roomCheck}
+use Rattle.numbers.specs.declared.Numbers.{Numbers}
+use Rattle.numbers.specs.Numbers.{limitsCheck, largeCheck, roomCheck}
+use Rattle.lists.specs.Lists.{net, listsCheck}
 use Rattle.lists.proofs.Right.{accepted, few-cells, sane}
 use Rattle.lists.proofs.Given.{given-only}
 use Rattle.closure.specs.declared.RunAnswer.{RunAnswer}
@@ -23,7 +24,7 @@ use Rattle.closure.specs.Runs.{runCheck, RunIs}
 use Rattle.closure.proofs.Settled.{never-12}
 use Rattle.witness.specs.Answers.{cellCheck, tableCheck, argumentsCheck, pathCheck, windowCheck, witnessCheck}
 use Rattle.witness.proofs.Accepts.{asked}
-use Rattle.nevelknop.specs.Calls.{recordsCheck, largeCheck, callCheck}
+use Rattle.nevelknop.specs.Calls.{bytesCheck, callCheck}
 use Rattle.nevelknop.specs.Inner.{Placed}
 use Rattle.nevelknop.proofs.Orders.{counts, ready}
 
@@ -38,8 +39,8 @@ low-room : (p want have : ℕ) → p < 4096 → Only Low (roomCheck p want have)
 unfolding roomCheck
 low-room p want have h = low-must (leb want have) 10 p h
 
-pub low-records : (rules edges : ℕ) → Only Low (recordsCheck rules edges)
-unfolding recordsCheck
+pub low-records : (rules edges : ℕ) → Only Low (bytesCheck rules edges)
+unfolding bytesCheck
 low-records rules edges = only-and Low _ _ (low-must _ 5 0 (omega arith)) (λ _. low-must _ 5 1 (omega arith))
 
 module _ (numbers : Numbers) where

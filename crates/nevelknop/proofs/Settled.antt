@@ -9,7 +9,7 @@ use Rattle.words.specs.Tab.{over}
 use Rattle.packing.specs.Packed.{packed}
 use Rattle.words.proofs.Refusals.{good-bad, bad-same, and-good}
 use Rattle.meaning.proofs.Recorded.{recorded-one}
-use Rattle.lists.specs.declared.Numbers.{Numbers}
+use Rattle.numbers.specs.declared.Numbers.{Numbers}
 use Rattle.lists.specs.Lists.{listsCheck}
 use Rattle.lists.proofs.Right.{accepted, sane}
 use Rattle.closure.proofs.Settled.{run-settled}
@@ -26,7 +26,7 @@ pub record SameWitness (n m : ℕ) (path path′ : List ℕ) : Type 0 where
   pub paths : path ≡ path′
 
 module _ (records : Check) (numbers : Numbers) (rules edges : List ℕ) where
-  call-good : {own : Check} → callCheck records numbers rules edges own ≡ Good → (listsCheck numbers rules edges ≡ Good) × (own ≡ Good)
+  pub call-good : {own : Check} → callCheck records numbers rules edges own ≡ Good → (listsCheck numbers rules edges ≡ Good) × (own ≡ Good)
   unfolding callCheck
   call-good e = let a = and-good _ _ .0 (and-good _ _ .0 e .1) in (a .0, and-good _ _ .0 (a .1) .1)
 

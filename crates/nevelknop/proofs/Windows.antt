@@ -1,9 +1,9 @@
 -- The path in the bytes, window by window. Assumes nothing.
 use mathlib.Core.Path.{_≡_, refl, sym, ap, _∙_}
 use mathlib.Core.List.{List, _++_, append-nil}
-use Prim.Native.Nat.{ℕ, _+_, _-_, _*_, _/_, _≤_, _<_, min}
+use Prim.Native.Nat.{ℕ, _+_, _-_, _*_, _/_, _≤_, _<_}
 use native.Mathlib.Omega.{arith}
-use lib.ListN.{length, take, drop, length-take, length-drop, drop-of-length-le}
+use lib.ListN.{length, take, drop, length-drop, drop-of-length-le}
 use lib.Seq.{take-at, drop-at, take-all, take-take, take-add, length-take-le}
 use borrow.Rule.Slice.PartMut.{midOf, putMid}
 use Rattle.words.specs.declared.Check.{Check}
@@ -11,16 +11,17 @@ use Rattle.words.specs.declared.Check.the-variants.{Good, Bad}
 use Rattle.words.specs.declared.Refusal.{Refusal}
 use Rattle.words.specs.Tab.{over}
 use Rattle.packing.specs.Packed.{packed, packedInto}
-use Rattle.words.proofs.Tab.{over-none}
+use Rattle.words.proofs.Tab.{over-none, take-over}
 use Rattle.packing.proofs.Packed.{length-packed, pack-behind}
 use Rattle.meaning.specs.Net.{Net, Sane}
 use Rattle.meaning.specs.Table.{at}
 use Rattle.meaning.specs.Lengths.{Recorded}
 use Rattle.meaning.proofs.Recorded.{recorded-one}
-use Rattle.lists.specs.declared.Numbers.{Numbers}
+use Rattle.numbers.specs.declared.Numbers.{Numbers}
 use Rattle.lists.specs.Lists.{net}
 use Rattle.witness.specs.Answers.{windowCheck, part, Answered}
 use Rattle.witness.specs.declared.WitnessAnswer.the-variants.{Wrote, Refused}
+use Rattle.witness.proofs.Windows.{part-count}
 use Rattle.witness.proofs.Writes.{window-sane, window-path}
 use Rattle.nevelknop.specs.Inner.{OneWindow, WholePath}
 use Rattle.nevelknop.proofs.Lent.{packs}
@@ -43,29 +44,24 @@ put-rest a xs ys = rw (drop-of-length-le (drop a xs) {i = length xs - a} (rw len
 pub rest-of : (a : ℕ) (xs : List ℕ) → midOf a (length xs - a) xs ≡ drop a xs
 rest-of a xs = take-all (length xs - a) (drop a xs) (rw length-drop (omega arith))
 
--- a window as long as there are edges left, at most 16,384
-part-length : (from n : ℕ) (p : List ℕ) → length (part from n p) ≡ min n (length p - from)
-part-length from n p = rw (length-take, length-drop)
-
 -- two windows, one behind the other
 part-behind : (from n : ℕ) (p : List ℕ) → take from p ++ part from n p ≡ take (from + length (part from n p)) p
 part-behind from n p =
     let w = part from n p in
     let e : take (length w) (drop from p) ≡ w =
-    sym (take-take (length w) n (drop from p) (omega (arith, part-length from n p))) ∙ take-all (length w) w (omega arith) in
+    sym (take-take (length w) n (drop from p) (omega (arith, part-count from n p))) ∙ take-all (length w) w (omega arith) in
     sym (take-add from (length w) p ∙ rw e)
 
 module _ {g : Net} {t : List ℕ} {A i j : ℕ} {check : Check} {entry exit : List ℕ} where
   pub answer-short : (from n : ℕ) {r : ℕ} → Answered g t A i j check (part from n) entry exit (Wrote r) → r ≤ n
-  answer-short from n (Answered.wrote p good way count words) = omega (arith, count, part-length from n p)
+  answer-short from n (Answered.wrote p good way count words) = omega (arith, count, part-count from n p)
 
   -- its words, packed behind the edges before it
   pub one-window : Sane g → (from : ℕ) {r : ℕ} {path path′ : List ℕ} → Answered g t A i j check (part from 16384) entry exit (Wrote r)
       → path′ ≡ take (2 * from) path ++ packedInto 2 (take r exit) (drop (2 * from) path) → OneWindow g t A i j from path path′ r
-  unfolding over
   one-window ok from {r} (Answered.wrote q good way count words) e =
       let w = part from 16384 q in
-      let f : take r exit ≡ w = rw (words, count) (take-at w (drop (length w) entry) (length w) refl) in
+      let f : take r exit ≡ w = rw (words, count) (take-over w entry (length w) refl) in
       record {
         count = λ p by. count ∙ ap (λ z. length (part from 16384 z)) (recorded-one ok way by);
         bytes = λ p by. e ∙ rw (f, recorded-one ok way by);
@@ -106,7 +102,7 @@ module _ {g : Net} {t : List ℕ} {A i j : ℕ} where
         let d = drop (2 * from) path₀ in
         let lf : length f ≡ from = length-take-le from p (omega (arith, long p way, w .within)) in
         let lp : length (packed 2 f) ≡ 2 * from = length-packed 2 f ∙ rw lf in
-        let lq = part-length from 16384 p in
+        let lq = part-count from 16384 p in
         let is : path ≡ packed 2 f ++ d = w .bytes p way ∙ rw lp in
         let fits : length q ≤ length d / 2 = rw length-drop (omega (arith, lq, long p way, room)) in
         let e : take (from + r) p ≡ f ++ q = rw (o .count p way) (sym (part-behind from 16384 p)) in
@@ -116,11 +112,11 @@ module _ {g : Net} {t : List ℕ} {A i j : ℕ} where
 
     pub writing-more : (p : List ℕ) → Recorded g t A i j p → length path′ ≡ length path → Writing g t A i j many path₀ path′ (from + r)
     writing-more p way e = record {
-      within = omega (arith, o .count p way, part-length from 16384 p, long p way, w .within);
+      within = omega (arith, o .count p way, part-count from 16384 p, long p way, w .within);
       same = e ∙ w .same;
       bytes = bytes-more;
     }
 
     -- a window is not empty before the end
     pub some-more : (p : List ℕ) → Recorded g t A i j p → from < many → 0 < r
-    some-more p way h = omega (arith, o .count p way, part-length from 16384 p, long p way)
+    some-more p way h = omega (arith, o .count p way, part-count from 16384 p, long p way)

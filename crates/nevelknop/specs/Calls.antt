@@ -3,7 +3,7 @@ use mathlib.Core.Path.{_≡_}
 use mathlib.Core.List.{List}
 use Prim.Native.Nat.{ℕ, _+_, _*_, _/_, _%_, _^_, min}
 use lib.ListN.{length}
-use lib.Dec.{eqb, leb}
+use lib.Dec.{eqb}
 use Rattle.words.specs.declared.Check.{Check}
 use Rattle.words.specs.declared.Check.the-variants.{Good, Bad}
 use Rattle.words.specs.declared.Refusal.{Refusal}
@@ -12,7 +12,8 @@ use Rattle.words.specs.Tab.{over}
 use Rattle.packing.specs.Packed.{unpacked, packed}
 use Rattle.meaning.specs.Net.{Net}
 use Rattle.meaning.specs.Lengths.{Recorded}
-use Rattle.lists.specs.declared.Numbers.{Numbers}
+use Rattle.numbers.specs.declared.Numbers.{Numbers}
+use Rattle.numbers.specs.Numbers.{largeCheck}
 use Rattle.lists.specs.Lists.{net, listsCheck}
 use Rattle.closure.specs.declared.RunAnswer.{RunAnswer}
 use Rattle.closure.specs.declared.RunAnswer.the-variants.{Depth, Refused}
@@ -35,15 +36,8 @@ numbersOf nodes nonterminals labels = record { nodes = nodes; nonterminals = non
 -- ---- refusals
 
 -- 5: "a list of bytes that is no whole number of records is 5", "rules 0, edges 1"
-unfoldable pub recordsCheck : ℕ → ℕ → Check
-recordsCheck rules edges = must (eqb (rules % 6) 0) 5 0 andThen must (eqb (edges % 6) 0) 5 1
-
--- 13: "over 16 nodes, 8 nonterminals or 1,024 edges", at "0, 1 or 5"
-unfoldable pub largeCheck : Numbers → ℕ → Check
-largeCheck numbers edges =
-    must (leb (numbers .nodes) 16) 13 0
-    andThen must (leb (numbers .nonterminals) 8) 13 1
-    andThen must (leb edges 1024) 13 5
+unfoldable pub bytesCheck : ℕ → ℕ → Check
+bytesCheck rules edges = must (eqb (rules % 6) 0) 5 0 andThen must (eqb (edges % 6) 0) 5 1
 
 -- the order: 5 for the bytes, 4, 7, 8, "13 comes after 8", and then the call's own
 unfoldable pub callCheck : Check → Numbers → List ℕ → List ℕ → Check → Check
@@ -94,7 +88,7 @@ WitnessOn records numbers rules edges a i j table lengths path =
 
 -- and as C makes them, on lists of bytes
 abbrev pub RunCall : Numbers → List ℕ → List ℕ → List ℕ → List ℕ → List ℕ → List ℕ → ℕ → Type 0
-RunCall numbers rules edges = RunOn (recordsCheck (length rules) (length edges)) numbers (wordsOf 2 rules) (wordsOf 2 edges)
+RunCall numbers rules edges = RunOn (bytesCheck (length rules) (length edges)) numbers (wordsOf 2 rules) (wordsOf 2 edges)
 
 abbrev pub WitnessCall : Numbers → List ℕ → List ℕ → ℕ → ℕ → ℕ → List ℕ → List ℕ → List ℕ → List ℕ → ℕ → Type 0
-WitnessCall numbers rules edges = WitnessOn (recordsCheck (length rules) (length edges)) numbers (wordsOf 2 rules) (wordsOf 2 edges)
+WitnessCall numbers rules edges = WitnessOn (bytesCheck (length rules) (length edges)) numbers (wordsOf 2 rules) (wordsOf 2 edges)

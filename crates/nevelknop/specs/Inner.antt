@@ -7,7 +7,7 @@ use Rattle.words.specs.Tab.{over}
 use Rattle.packing.specs.Packed.{packed, packedInto}
 use Rattle.meaning.specs.Net.{Net}
 use Rattle.meaning.specs.Lengths.{Recorded}
-use Rattle.lists.specs.declared.Numbers.{Numbers}
+use Rattle.numbers.specs.declared.Numbers.{Numbers}
 use Rattle.lists.specs.Lists.{net}
 use Rattle.closure.specs.declared.RunAnswer.{RunAnswer}
 use Rattle.closure.specs.declared.RunAnswer.the-variants.{Depth, Refused}

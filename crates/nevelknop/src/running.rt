@@ -11,7 +11,7 @@ use crate::checks::refusal;
 use crate::checks::words_check;
 use closure::RunAnswer;
 use closure::run;
-use lists::Numbers;
+use numbers::Numbers;
 use packing::pack32;
 use packing::pack64;
 use packing::shorter;
@@ -77,7 +77,7 @@ fn run_number(a: RunAnswer) -> u64
 }
 
 // The run on lists of words.
-pub fn run_lists(
+pub(crate) fn run_lists(
     numbers: Numbers,
     rules: &[u16],
     edges: &[u16],

@@ -11,9 +11,10 @@ ghost use Rattle.nevelknop.specs.Calls.{WitnessBytes, WitnessOn};
 ghost use Rattle.nevelknop.specs.Inner.{OneWindow, WholePath};
 use crate::checks::refusal;
 use crate::checks::words_check;
-use lists::Numbers;
-use lists::room;
 use meaning::cell;
+use meaning::length_at;
+use numbers::Numbers;
+use numbers::room;
 use packing::pack16;
 use packing::shorter;
 use packing::unpack32;
@@ -26,11 +27,10 @@ fn length_of(numbers: Numbers, a: usize, i: usize, j: usize, lengths: &[u32]) ->
     requires { ⌜ Asked numbers a i j ⌝ }
     ensures { λ r. ⌜ r ≡ wordAt (numbers .nodes) (now (lengths .entry)) a i j ⌝ }
 {
-    let c = cell(numbers.nodes as u16, a as u16, i as u16, j as u16);
-    if lengths.len() <= c {
-        return 0;
-    }
-    lengths[c]
+    length_at(
+        lengths,
+        cell(numbers.nodes as u16, a as u16, i as u16, j as u16),
+    )
 }
 
 // What a witness is refused for, before a byte is written: a window's own refusals, then the room for so many words.
@@ -143,38 +143,18 @@ fn witness_words(
 ) -> u64
     ensures { λ n. ⌜ WitnessBytes (witnessCheck numbers (now (rules .entry)) (now (edges .entry)) a i j (now (table .entry)) (now (lengths .entry)) (length (now (path .entry)) / 2)) (net numbers (now (rules .entry)) (now (edges .entry))) (now (table .entry)) a i j (now (path .entry)) (now (path .exit)) n ⌝ }
 {
-    let ready = witness_check(
-        numbers,
-        rules,
-        edges,
-        a,
-        i,
-        j,
-        table,
-        lengths,
-        path.len() / 2,
-    );
+    let words = path.len() / 2;
+    let ready = witness_check(numbers, rules, edges, a, i, j, table, lengths, words);
     if let Check::Bad(r) = ready {
         return refusal(r);
     }
-    let many = length_of(numbers, a, i, j, lengths);
-    write_path(
-        numbers,
-        rules,
-        edges,
-        a,
-        i,
-        j,
-        table,
-        lengths,
-        many as usize,
-        path,
-    );
+    let many = length_of(numbers, a, i, j, lengths) as usize;
+    write_path(numbers, rules, edges, a, i, j, table, lengths, many, path);
     many as u64
 }
 
 // The witness on lists of words.
-pub fn witness_lists(
+pub(crate) fn witness_lists(
     numbers: Numbers,
     rules: &[u16],
     edges: &[u16],

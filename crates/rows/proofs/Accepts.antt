@@ -1,19 +1,21 @@
 -- An accepted call's numbers, lists and room; and each refusal of a call 'given exactly when'. Assumes nothing.
-use mathlib.Core.Path.{_≡_, refl, sym}
+use mathlib.Core.Path.{_≡_, sym}
 use mathlib.Core.List.{List}
 use mathlib.Core.Logic.{_≢_, _↔_, Iff·rfl, Iff·and, Iff·trans}
 use Prim.Native.Nat.{ℕ, _*_, _≤_, _<_}
 use native.Mathlib.Omega.{arith}
 use native.Mathlib.Nat.{mul-le-mul}
-use borrow.Author.Tests.{leb-true, leb-false, lt-leb}
 use Rattle.words.specs.declared.Check.the-variants.{Good}
 use Rattle.words.specs.Refusals.{refused}
-use Rattle.words.proofs.Refusals.{must-good, must-bad, and-good, same-place, only-must, and-first, and-second}
+use Rattle.words.proofs.Refusals.{and-good, only-must, and-first, and-second}
 use Rattle.meaning.specs.Net.{Sane}
-use Rattle.lists.specs.declared.Numbers.{Numbers}
-use Rattle.lists.specs.Lists.{net, listsCheck, roomCheck}
+use Rattle.numbers.specs.declared.Numbers.{Numbers}
+use Rattle.numbers.specs.Numbers.{roomCheck}
+use Rattle.lists.specs.Lists.{net, listsCheck}
+use Rattle.numbers.proofs.Right.{room-good}
 use Rattle.lists.proofs.Right.{accepted, sane}
-use Rattle.lists.proofs.Given.{given-only}
+use Rattle.numbers.proofs.Given.{room-given}
+use Rattle.lists.proofs.Given.{lists-other}
 use Rattle.rows.specs.Calls.{rowsCheck}
 
 -- the number of rows
@@ -31,8 +33,7 @@ module _ (numbers : Numbers) (rules edges : List ℕ) (have : ℕ) (e : rowsChec
   rows-sane = sane numbers rules edges (accepted numbers rules edges (both .0))
 
   pub rows-room : numbers .nonterminals * numbers .nodes ≤ have
-  unfolding roomCheck
-  rows-room = leb-true _ _ (must-good _ _ _ .0 (both .1))
+  rows-room = room-good _ _ _ .0 (both .1)
 
 module _ (numbers : Numbers) (rules edges : List ℕ) (have p : ℕ) where
   -- the lists' refusals come first, exactly as the lists give them
@@ -42,11 +43,9 @@ module _ (numbers : Numbers) (rules edges : List ℕ) (have p : ℕ) where
 
   -- 10: "a lent buffer too short", "rows 5"
   pub given-10 : (rowsCheck numbers rules edges have ≡ refused 10 p)
-      ↔ ((listsCheck numbers rules edges ≡ Good) × ((p ≡ 5) × (have < numbers .nonterminals * numbers .nodes)))
-  unfolding rowsCheck roomCheck
+      ↔ ((listsCheck numbers rules edges ≡ Good) × ((have < numbers .nonterminals * numbers .nodes) × (p ≡ 5)))
+  unfolding rowsCheck
   given-10 =
-      Iff·trans (and-second _ _ 10 p (λ r e h. omega (arith, given-only numbers rules edges r e .0)))
-      (Iff·and Iff·rfl (
-        (λ e. let z = must-bad _ 10 5 _ .0 e in (sym (same-place (z .1)), leb-false _ _ (z .0))),
-        (λ z. must-bad _ 10 5 _ .1 (lt-leb _ _ (z .1), rw (z .0) refl)),
-      ))
+      Iff·trans
+      (and-second (listsCheck numbers rules edges) _ 10 p (lists-other numbers rules edges 10 (omega arith)))
+      (Iff·and Iff·rfl (room-given 5 (numbers .nonterminals * numbers .nodes) have p))

@@ -4,27 +4,20 @@ use mathlib.Core.List.{List}
 use Prim.Native.Nat.{ℕ, _+_, _*_, _≤_, _<_}
 use native.Mathlib.Omega.{arith}
 use native.Mathlib.Decide.{ℕ-discrete}
-use lib.ListN.{length, getD, drop, replicate, length-append, length-drop, length-replicate, getD-replicate, List·getD-append}
-use lib.Seq.{drop-at}
+use lib.ListN.{length}
 use lib.Arith.{digits-lt}
+use Rattle.words.proofs.Tab.{length-fill, getD-fill, drop-fill}
 use Rattle.meaning.specs.Net.{Net, Sane}
 use Rattle.meaning.specs.Trees.{Tree, leaf, pair, height, edgesOf}
 use Rattle.meaning.specs.Rows.{bit, rowAt, Row}
 use Rattle.meaning.proofs.Trees.{reach-tree, tree-reach, tree-inside}
 use Rattle.meaning.proofs.Bits.{bit-zero, bit-power-other}
-use Rattle.lists.specs.declared.Numbers.{Numbers}
+use Rattle.numbers.specs.declared.Numbers.{Numbers}
 use Rattle.lists.specs.Lists.{net}
 use Rattle.rows.specs.Rounds.{Grown, LabelStep, cleared, AllLeaves, EachBit, InRange, Ready, Entered, Closed}
 use Rattle.rows.specs.Calls.{RowsMade}
 use Rattle.rows.proofs.Lowest.{bits-below}
 use Rattle.rows.proofs.Grows.{grown-length, grown-keeps, grown-rest, row-same, grown-each, pairs-each}
-
-pub cleared-length : (c : ℕ) (rs : List ℕ) → c ≤ length rs → length (cleared c rs) ≡ length rs
-cleared-length c rs h = length-append (replicate c 0) (drop c rs) ∙ rw (length-replicate {A = ℕ} c 0, length-drop c rs) (omega arith)
-
-cleared-row : (c a : ℕ) (rs : List ℕ) → a < c → getD (cleared c rs) a 0 ≡ 0
-cleared-row c a rs h =
-    List·getD-append (replicate c 0) (drop c rs) 0 a (rw (length-replicate {A = ℕ} c 0) h) ∙ getD-replicate c a 0 0 h
 
 -- rs: the rows that were lent
 module _ (numbers : Numbers) {rules edges : List ℕ} (ok : Sane (net numbers rules edges)) (rs : List ℕ) where
@@ -42,7 +35,7 @@ module _ (numbers : Numbers) {rules edges : List ℕ} (ok : Sane (net numbers ru
 
   -- a leaf's tree for each bit that the label rules bring
   entered-trees : {rs′ : List ℕ} → Grown (LabelStep n rules edges) (cleared count rs) rs′ → EachBit numbers (Tree g) rs′
-  entered-trees x = grown-each numbers (Tree g) brings x (λ A i j hA hi b. absurd (omega (arith, bit-zero j, rw (cleared-row count (A * n + i) rs (digits-lt hA hi)) at b)))
+  entered-trees x = grown-each numbers (Tree g) brings x (λ A i j hA hi b. absurd (omega (arith, bit-zero j, rw (getD-fill count 0 rs (A * n + i) (digits-lt hA hi)) at b)))
     where
       brings : (rs : List ℕ) (a w : ℕ) → EachBit numbers (Tree g) rs → LabelStep n rules edges rs a w
           → (A i j : ℕ) → A < numbers .nonterminals → i < n → A * n + i ≡ a → bit w j ≡ 1 → Tree g A i j
@@ -57,7 +50,7 @@ module _ (numbers : Numbers) {rules edges : List ℕ} (ok : Sane (net numbers ru
 
   pub entered-ready : {rs′ : List ℕ} → count ≤ length rs → Grown (LabelStep n rules edges) (cleared count rs) rs′ → Ready numbers rules rs′
   entered-ready long x = record {
-    long = omega (arith, long, grown-length x, cleared-length count rs long);
+    long = omega (arith, long, grown-length x, length-fill count 0 rs long);
     range = range;
     clear = λ A i j hA hi b. tree-inside ok (entered-trees x A i j hA hi b) .to;
   }
@@ -80,9 +73,9 @@ module _ (numbers : Numbers) {rules edges : List ℕ} (ok : Sane (net numbers ru
 
     pub rows-made : count ≤ length rs → RowsMade g rs rs″
     rows-made long = record {
-      rows = record { long = omega (arith, long, cleared-length count rs long, grown-length (x .grown), grown-length (y .grown)); row = row };
+      rows = record { long = omega (arith, long, length-fill count 0 rs long, grown-length (x .grown), grown-length (y .grown)); row = row };
       kept =
           grown-rest count (λ rs a w s. rw (s .row) (digits-lt (range (s .r) (s .A) (s .B) (s .C) (s .rule) .0) (s .from))) (y .grown)
           ∙ grown-rest count (λ rs a w s. rw (s .row) (digits-lt (ok .leaves (s .r) (s .A) (s .x) (s .rule) .head) (ok .ends (s .e) (s .i) (s .x) (s .j) (s .edge) .from))) (x .grown)
-          ∙ drop-at (replicate count 0) (drop count rs) count (length-replicate count 0);
+          ∙ drop-fill count 0 rs;
     }

@@ -14,7 +14,7 @@ use lib.Pow.{pow-lt}
 use lib.Arith.{digits-lt}
 use Rattle.meaning.specs.Net.{Edge, LabelRule, Sane, word}
 use Rattle.meaning.proofs.Bits.{bit-power}
-use Rattle.lists.specs.declared.Numbers.{Numbers}
+use Rattle.numbers.specs.declared.Numbers.{Numbers}
 use Rattle.lists.specs.Lists.{net}
 use Rattle.rows.specs.Rounds.{united, none, more, entered, EdgeFits, Leaf, Leaves, AllLeaves, Entered}
 use Rattle.rows.proofs.United.{united-keeps, united-adds}

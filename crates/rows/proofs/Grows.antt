@@ -8,7 +8,7 @@ use lib.ListN.{length, getD, drop}
 use lib.Arith.{digits-div, digits-mod}
 use Rattle.meaning.specs.Net.{PairRule}
 use Rattle.meaning.specs.Rows.{bit, rowAt}
-use Rattle.lists.specs.declared.Numbers.{Numbers}
+use Rattle.numbers.specs.declared.Numbers.{Numbers}
 use Rattle.rows.specs.Rounds.{united, Grown, none, more, PairStep, EachBit, InRange, Ready}
 use Rattle.rows.proofs.United.{united-length, united-rest, united-only, united-keeps}
 

@@ -12,7 +12,7 @@ use Rattle.meaning.specs.Table.{at, Each}
 use Rattle.meaning.specs.Final.{FinalTable}
 use Rattle.meaning.specs.Rows.{bit, rowAt}
 use Rattle.meaning.proofs.Rows.{rows-list, rows-filled}
-use Rattle.lists.specs.declared.Numbers.{Numbers}
+use Rattle.numbers.specs.declared.Numbers.{Numbers}
 use Rattle.lists.specs.Lists.{net}
 use Rattle.rows.specs.Calls.{RowsLeave, RowsCall}
 use Rattle.rows.proofs.Accepts.{rows-sane}

@@ -11,7 +11,7 @@ use lib.ListN.{length, getD}
 use lib.Arith.{digits-lt}
 use Rattle.meaning.specs.Net.{PairRule, word}
 use Rattle.meaning.specs.Table.{total}
-use Rattle.lists.specs.declared.Numbers.{Numbers}
+use Rattle.numbers.specs.declared.Numbers.{Numbers}
 use Rattle.rows.specs.Rounds.{Grown, none, more, PairStep, Full, Products, AllProducts, Went, JoinFits, Joined, Worked, Closed, Ready}
 use Rattle.rows.proofs.Grows.{grown-then, grown-length}
 

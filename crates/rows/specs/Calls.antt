@@ -8,8 +8,9 @@ use Rattle.words.specs.declared.Check.the-variants.{Good, Bad}
 use Rattle.words.specs.Refusals.{_andThen_}
 use Rattle.meaning.specs.Net.{Net}
 use Rattle.meaning.specs.Rows.{RowTable}
-use Rattle.lists.specs.declared.Numbers.{Numbers}
-use Rattle.lists.specs.Lists.{net, listsCheck, roomCheck}
+use Rattle.numbers.specs.declared.Numbers.{Numbers}
+use Rattle.numbers.specs.Numbers.{roomCheck}
+use Rattle.lists.specs.Lists.{net, listsCheck}
 
 -- "then their own: start and rows 10", at place 5, of a buffer of `have` words
 unfoldable pub rowsCheck : Numbers → List ℕ → List ℕ → ℕ → Check

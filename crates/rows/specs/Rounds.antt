@@ -2,16 +2,17 @@
 -- Its Algorithm 1 enters A at (i, j) for each edge (i, x, j) and rule A → x, and then, "while matrix T is changing", works
 -- "T ← T ∪ (T × T)", where A is at (i, j) of the product if B is at (i, k) and C at (k, j) for a rule A → B C. Assumes nothing.
 use mathlib.Core.Path.{_≡_}
-use mathlib.Core.List.{List, _++_}
+use mathlib.Core.List.{List}
 use mathlib.Core.Bool.{Bool, true, false, cond}
 use Prim.Native.Nat.{ℕ, _+_, _*_, _/_, _^_, _≤_, _<_}
-use lib.ListN.{length, getD, set, drop, replicate}
+use lib.ListN.{length, getD, set, replicate}
 use lib.Dec.{eqb}
 use lib.Bits.{bitOr}
+use Rattle.words.specs.Tab.{over}
 use Rattle.meaning.specs.Net.{Edge, PairRule, LabelRule, word}
 use Rattle.meaning.specs.Table.{total}
 use Rattle.meaning.specs.Rows.{bit, rowAt}
-use Rattle.lists.specs.declared.Numbers.{Numbers}
+use Rattle.numbers.specs.declared.Numbers.{Numbers}
 
 -- ---- a row of a product
 
@@ -70,7 +71,7 @@ pub record PairStep (n : ℕ) (rules rs : List ℕ) (a w : ℕ) : Type 0 where
 
 -- the first c rows cleared, the words past them kept
 abbrev pub cleared : ℕ → List ℕ → List ℕ
-cleared c rs = replicate c 0 ++ drop c rs
+cleared c rs = over (replicate c 0) rs
 
 -- the rows after edge e was entered for a rule with this label, whose head's rows begin at `base`
 unfoldable pub entered : List ℕ → ℕ → ℕ → ℕ → List ℕ → List ℕ

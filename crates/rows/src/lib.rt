@@ -8,10 +8,10 @@ ghost use Rattle.meaning.specs.Rows.{bit};
 ghost use Rattle.lists.specs.Lists.{net};
 ghost use Rattle.rows.specs.Rounds.{Union, cleared, entered, EdgeFits, Leaves, AllLeaves, Entered, Products, AllProducts, JoinFits, Joined, Worked, Closed, Ready};
 ghost use Rattle.rows.specs.Calls.{rowsCheck, RowsMade, RowsCall};
-use lists::Numbers;
 use lists::check;
-use lists::room;
 use meaning::word;
+use numbers::Numbers;
+use numbers::room;
 use words::Check;
 
 // The first `count` rows cleared.

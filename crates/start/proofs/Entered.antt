@@ -1,18 +1,21 @@
 -- What emptying words and entering a key do. Assumes nothing.
 use mathlib.Core.Path.{_≡_}
-use mathlib.Core.List.{List, _++_}
+use mathlib.Core.List.{List}
 use Prim.Native.Nat.{ℕ, _+_, _≤_, _<_, min}
 use native.Mathlib.Numerals.{add-one}
 use native.Mathlib.Omega.{arith}
-use lib.ListN.{length, getD, set, drop, replicate, length-append, length-replicate, length-drop}
+use lib.ListN.{length, getD, set, replicate}
 use lib.Seq.{set-getD}
+use Rattle.words.specs.Tab.{over}
 use Rattle.key.specs.Keys.{EMPTY}
-use Rattle.start.specs.Entering.{enteredIn, leafIn, edgesIn, ruleIn, rulesIn}
+use Rattle.start.specs.Entering.{enteredIn, cleared, leafIn, edgesIn, ruleIn, rulesIn}
 
 -- ---- emptied words
 
-pub length-filled : (c : ℕ) (t : List ℕ) → c ≤ length t → length (replicate c EMPTY ++ drop c t) ≡ length t
-length-filled c t h = rw (length-append, length-replicate, length-drop) (omega arith)
+-- a table that has the words to empty
+pub cleared-all : (c : ℕ) (t : List ℕ) → c ≤ length t → cleared c t ≡ over (replicate c EMPTY) t
+unfolding cleared
+cleared-all c t h = let e : min c (length t) ≡ c = omega arith in rw e
 
 -- ---- one write
 

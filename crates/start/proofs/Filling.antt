@@ -6,21 +6,22 @@ use Prim.Native.Nat.{ℕ, zero, suc, _/_, _≤_, _<_, min}
 use native.Mathlib.Nat.{eq-or-lt-of-le, le-of-suc-le-suc}
 use native.Mathlib.Omega.{arith}
 use native.Mathlib.Decide.{ℕ-discrete, decLe}
-use lib.ListN.{length, getD, drop, replicate, length-set, length-replicate, getD-replicate, List·getD-append}
-use lib.Seq.{getD-set-same, getD-set-other, drop-set-lt, drop-at}
+use lib.ListN.{length, getD, drop, length-set}
+use lib.Seq.{getD-set-same, getD-set-other, drop-set-lt}
 use lib.Dec.{eqb}
 use borrow.Author.Tests.{eqb-true, eqb-false}
 use borrow.Table.Steps.{cases}
+use Rattle.words.proofs.Tab.{length-fill, getD-fill, drop-fill}
 use Rattle.key.specs.Keys.{EMPTY, key}
 use Rattle.meaning.specs.Net.{Net, Edge, LabelRule, word}
 use Rattle.meaning.specs.Table.{cell, at, cells, Each, LeafKey}
 use Rattle.meaning.proofs.Cells.{cell-in, cell-same}
-use Rattle.lists.specs.declared.Numbers.{Numbers}
+use Rattle.numbers.specs.declared.Numbers.{Numbers}
 use Rattle.lists.specs.Lists.{net}
 use Rattle.lists.proofs.Right.{RightLists, sane}
 use Rattle.start.specs.Entering.{enteredIn, cleared, leafIn, edgesIn, ruleIn, rulesIn}
 use Rattle.start.specs.Calls.{Started}
-use Rattle.start.proofs.Entered.{length-filled}
+use Rattle.start.proofs.Entered.{cleared-all}
 
 -- the leaf of rule r′ and edge e′ has been entered: all edges of the rules before r have, and of rule r those before e
 data Passed (r e r′ e′ : ℕ) : Type 0 where
@@ -211,22 +212,15 @@ module _ (numbers : Numbers) (rules edges : List ℕ) (ok : RightLists numbers r
   module _ (room : cells g ≤ length t₀) where
     -- with every cell emptied, no leaf is passed
     emptied : Then g t₀ 0 0 (cleared (cells g) t₀)
-    unfolding cleared
     emptied =
-        let m : min (cells g) (length t₀) ≡ cells g = omega arith in
-        rw m
+        rw (cleared-all (cells g) t₀ room)
         (record {
-          long = omega (arith, length-filled (cells g) t₀ room);
-          cell = λ A i j hA hi hj.
-              let b = cell-in n (numbers .nonterminals) A i j hA hi hj in
-              record {
-                real =
-                    inl
-                    (List·getD-append (replicate (cells g) EMPTY) (drop (cells g) t₀) 0 (cell n A i j) (omega (arith, length-replicate (cells g) EMPTY))
-                    ∙ getD-replicate (cells g) (cell n A i j) EMPTY 0 b);
-                least = λ κ y p. absurd (none p);
-              };
-          kept = drop-at (replicate (cells g) EMPTY) (drop (cells g) t₀) (cells g) (length-replicate (cells g) EMPTY);
+          long = omega (arith, length-fill (cells g) EMPTY t₀ room);
+          cell = λ A i j hA hi hj. record {
+            real = inl (getD-fill (cells g) EMPTY t₀ (cell n A i j) (cell-in n (numbers .nonterminals) A i j hA hi hj));
+            least = λ κ y p. absurd (none p);
+          };
+          kept = drop-fill (cells g) EMPTY t₀;
         })
       where
         none : {r e : ℕ} → Passed 0 0 r e → ⊥

@@ -7,9 +7,11 @@ use native.Mathlib.Omega.{arith}
 use Rattle.words.specs.declared.Check.the-variants.{Good}
 use Rattle.words.specs.Refusals.{refused}
 use Rattle.words.proofs.Refusals.{and-second}
-use Rattle.lists.specs.declared.Numbers.{Numbers}
-use Rattle.lists.specs.Lists.{cellsOf, listsCheck}
-use Rattle.lists.proofs.Given.{lists-other, room-given}
+use Rattle.numbers.specs.declared.Numbers.{Numbers}
+use Rattle.numbers.specs.Numbers.{cellsOf}
+use Rattle.lists.specs.Lists.{listsCheck}
+use Rattle.numbers.proofs.Given.{room-given}
+use Rattle.lists.proofs.Given.{lists-other}
 use Rattle.start.specs.Calls.{startCheck}
 
 -- a start's only number of its own: "a lent buffer too short"

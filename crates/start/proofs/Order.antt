@@ -5,9 +5,10 @@ use mathlib.Core.Logic.{_↔_}
 use Prim.Native.Nat.{ℕ, _≤_}
 use Rattle.words.specs.declared.Check.the-variants.{Good}
 use Rattle.words.proofs.Refusals.{and-good}
-use Rattle.lists.specs.declared.Numbers.{Numbers}
-use Rattle.lists.specs.Lists.{cellsOf}
-use Rattle.lists.proofs.Right.{RightLists, accepted, accepting, room-good}
+use Rattle.numbers.specs.declared.Numbers.{Numbers}
+use Rattle.numbers.specs.Numbers.{cellsOf}
+use Rattle.numbers.proofs.Right.{room-good}
+use Rattle.lists.proofs.Right.{RightLists, accepted, accepting}
 use Rattle.start.specs.Calls.{startCheck}
 
 module _ (numbers : Numbers) (rules edges : List ℕ) where

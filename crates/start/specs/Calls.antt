@@ -8,8 +8,9 @@ use Rattle.words.specs.declared.Check.the-variants.{Good, Bad}
 use Rattle.words.specs.Refusals.{_andThen_}
 use Rattle.meaning.specs.Net.{Net}
 use Rattle.meaning.specs.Table.{cells, StartTable}
-use Rattle.lists.specs.declared.Numbers.{Numbers}
-use Rattle.lists.specs.Lists.{net, cellsOf, listsCheck, roomCheck}
+use Rattle.numbers.specs.declared.Numbers.{Numbers}
+use Rattle.numbers.specs.Numbers.{cellsOf, roomCheck}
+use Rattle.lists.specs.Lists.{net, listsCheck}
 
 -- "then their own: start and rows 10", on a table of so many words
 unfoldable pub startCheck : Numbers → List ℕ → List ℕ → ℕ → Check

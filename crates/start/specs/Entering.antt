@@ -1,9 +1,10 @@
 -- One write to a table, and the start as a sequence of them: what the code's inner functions do. Assumes nothing.
-use mathlib.Core.List.{List, _++_}
+use mathlib.Core.List.{List}
 use mathlib.Core.Bool.{cond}
 use Prim.Native.Nat.{ℕ, zero, suc, _*_, _/_, min}
-use lib.ListN.{length, getD, set, drop, replicate}
+use lib.ListN.{length, getD, set, replicate}
 use lib.Dec.{eqb}
+use Rattle.words.specs.Tab.{over}
 use Rattle.key.specs.Keys.{EMPTY, key}
 use Rattle.meaning.specs.Net.{word}
 use Rattle.meaning.specs.Table.{cell}
@@ -14,7 +15,7 @@ enteredIn t c κ = set t c (min (getD t c 0) κ)
 
 -- the first c words emptied
 unfoldable pub cleared : ℕ → List ℕ → List ℕ
-cleared c t = replicate (min c (length t)) EMPTY ++ drop (min c (length t)) t
+cleared c t = over (replicate (min c (length t)) EMPTY) t
 
 -- edge e entered for rule r, A → x, if it has the label x
 unfoldable pub leafIn : ℕ → List ℕ → ℕ → ℕ → ℕ → List ℕ → ℕ → List ℕ

@@ -4,12 +4,12 @@ ghost use mathlib.Core.Path.{_≡_};
 ghost use Rattle.start.specs.Entering.{enteredIn, cleared, leafIn, ruleIn, rulesIn, begun};
 ghost use Rattle.start.specs.Calls.{startCheck, StartCall};
 use key::Key;
-use lists::Numbers;
-use lists::cells;
 use lists::check;
-use lists::room;
 use meaning::cell;
 use meaning::word;
+use numbers::Numbers;
+use numbers::cells;
+use numbers::room;
 use words::Check;
 
 // Writes a key into word c if it is smaller than what stands there.

@@ -1,8 +1,8 @@
 -- Each refusal of a step 'given exactly when': all before it pass, and its own test fails. Assumes nothing.
 use mathlib.Core.Path.{_≡_, sym}
 use mathlib.Core.List.{List, [], _∷_}
-use mathlib.Core.Logic.{_≢_, _↔_, Iff·rfl, Iff·and, Iff·trans}
-use mathlib.Core.Bool.{Bool, true}
+use mathlib.Core.Logic.{_≢_, _↔_, _⊎_, Iff·rfl, Iff·and, Iff·trans}
+use mathlib.Core.Bool.{Bool, true, false}
 use Prim.Native.Nat.{ℕ, _/_, _<_}
 use native.Mathlib.Omega.{arith}
 use lib.ListN.{length, getD}
@@ -11,12 +11,14 @@ use borrow.Author.Tests.{not-false}
 use Rattle.words.specs.declared.Check.{Check}
 use Rattle.words.specs.declared.Check.the-variants.{Good}
 use Rattle.words.specs.Refusals.{refused, must, _andThen_, scan}
-use Rattle.words.proofs.Refusals.{must-given, and-assoc, Only, only-must, only-and, and-first, and-second, LowestWrong, scan-must}
-use Rattle.meaning.specs.Steps.{Step, targetOf, leftOf, rightOf, tooHigh}
+use Rattle.words.proofs.Refusals.{must-given, three-given, and-assoc, Only, only-must, only-and, and-first, and-second, LowestWrong, scan-must}
+use Rattle.meaning.specs.Steps.{Step, targetOf, leftOf, rightOf, usable, tooHigh}
 use Rattle.meaning.specs.Passes.{askOf}
-use Rattle.lists.specs.declared.Numbers.{Numbers}
-use Rattle.lists.specs.Lists.{cellsOf, listsCheck, roomCheck}
-use Rattle.lists.proofs.Given.{lists-other, room-given}
+use Rattle.numbers.specs.declared.Numbers.{Numbers}
+use Rattle.numbers.specs.Numbers.{cellsOf, roomCheck}
+use Rattle.lists.specs.Lists.{listsCheck}
+use Rattle.numbers.proofs.Given.{room-given}
+use Rattle.lists.proofs.Given.{lists-other}
 use Rattle.step.specs.Calls.{isPair, argumentCheck, usableCheck, heightCheck, callCheck, cellsCheck, stepCheck}
 
 module _ (numbers : Numbers) (rules edges t : List ℕ) (r i k j : ℕ) where
@@ -40,6 +42,10 @@ module _ (numbers : Numbers) (rules edges t : List ℕ) (r i k j : ℕ) where
 
   abbrev H : Check
   H = heightCheck n t s
+
+  -- the word of cell c is usable
+  abbrev pub fits : ℕ → Bool
+  fits c = usable n (length rules / 3) (getD t c 0)
 
   -- the tests of the arguments
   abbrev pub inRange : ℕ → Bool
@@ -98,15 +104,21 @@ module _ (numbers : Numbers) (rules edges t : List ℕ) (r i k j : ℕ) where
         (and-first R _ 10 p (only-and _ U H (usable-other 10 (omega arith)) (λ _. height-other 10 (omega arith))))
         (room-given 0 (cellsOf numbers) (length t) p))))
 
-    -- "a cell not usable"
+    -- "a cell not usable": "in the order target, left, right, .. 11 for the first that does not"
     pub given-11 : (stepCheck numbers rules edges t r i k j ≡ refused 11 p)
-        ↔ ((callCheck numbers rules edges (length t) r i k j ≡ Good) × (U ≡ refused 11 p))
-    unfolding stepCheck callCheck cellsCheck
+        ↔ ((callCheck numbers rules edges (length t) r i k j ≡ Good)
+        × (((fits (targetOf n s) ≡ false) × (p ≡ targetOf n s))
+        ⊎ ((fits (targetOf n s) ≡ true) × (fits (leftOf n s) ≡ false) × (p ≡ leftOf n s))
+        ⊎ ((fits (targetOf n s) ≡ true) × (fits (leftOf n s) ≡ true) × (fits (rightOf n s) ≡ false) × (p ≡ rightOf n s))))
+    unfolding stepCheck callCheck cellsCheck usableCheck
     given-11 =
         Iff·trans
         (and-second (L andThen A andThen R) _ 11 p
         (only-and _ L _ (lists-other numbers rules edges 11 (omega arith)) (λ _. only-and _ A R (arguments-other 11 (omega arith)) (λ _. room-other 11 (omega arith)))))
-        (Iff·and Iff·rfl (and-first U H 11 p (height-other 11 (omega arith))))
+        (Iff·and Iff·rfl
+        (Iff·trans
+        (and-first U H 11 p (height-other 11 (omega arith)))
+        (three-given 11 (targetOf n s) (leftOf n s) (rightOf n s) p Iff·rfl Iff·rfl Iff·rfl Iff·rfl Iff·rfl)))
 
     -- "a winning key would have height over 131,072"
     pub given-12 : (stepCheck numbers rules edges t r i k j ≡ refused 12 p)

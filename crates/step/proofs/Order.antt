@@ -18,8 +18,9 @@ use Rattle.meaning.specs.Net.{word}
 use Rattle.meaning.specs.Steps.{Step, targetOf, leftOf, rightOf, offer, step, wins, tooHigh}
 use Rattle.meaning.specs.Passes.{askOf}
 use Rattle.meaning.proofs.Steps.{step-keeps}
-use Rattle.lists.specs.declared.Numbers.{Numbers}
-use Rattle.lists.proofs.Right.{accepted, accepting, room-good}
+use Rattle.numbers.specs.declared.Numbers.{Numbers}
+use Rattle.numbers.proofs.Right.{room-good}
+use Rattle.lists.proofs.Right.{accepted, accepting}
 use Rattle.start.specs.Entering.{enteredIn}
 use Rattle.start.proofs.Order.{Ready}
 use Rattle.step.specs.declared.StepAnswer.the-variants.{Refused}

@@ -10,8 +10,9 @@ use Rattle.words.specs.Refusals.{must, _andThen_}
 use Rattle.meaning.specs.Net.{word}
 use Rattle.meaning.specs.Steps.{Step, targetOf, leftOf, rightOf, step, wins, usable, tooHigh}
 use Rattle.meaning.specs.Passes.{askOf}
-use Rattle.lists.specs.declared.Numbers.{Numbers}
-use Rattle.lists.specs.Lists.{cellsOf, listsCheck, roomCheck}
+use Rattle.numbers.specs.declared.Numbers.{Numbers}
+use Rattle.numbers.specs.Numbers.{cellsOf, roomCheck}
+use Rattle.lists.specs.Lists.{listsCheck}
 use Rattle.step.specs.declared.StepAnswer.{StepAnswer}
 use Rattle.step.specs.declared.StepAnswer.the-variants.{Changed, Unchanged, Refused}
 use Rattle.step.specs.Entering.{answered}

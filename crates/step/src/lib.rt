@@ -2,7 +2,7 @@
 // Every function is total; what each does to the table is one equation.
 ghost use mathlib.Core.Path.{_≡_};
 ghost use Prim.Native.Nat.{_/_};
-ghost use lib.ListN.{length, getD};
+ghost use lib.ListN.{length};
 ghost use Rattle.meaning.specs.Net.{word as wordOf};
 ghost use Rattle.meaning.specs.Table.{cell as cellOf};
 ghost use Rattle.meaning.specs.Steps.{usable as usableOf};
@@ -10,13 +10,14 @@ ghost use Rattle.meaning.specs.Passes.{askOf};
 ghost use Rattle.step.specs.Entering.{offered, taken};
 ghost use Rattle.step.specs.Calls.{isPair, argumentCheck, callCheck, usableCheck, cellsStep, stepOf};
 use key::Key;
-use lists::Numbers;
-use lists::cells;
 use lists::check;
-use lists::room;
 use meaning::cell;
+use meaning::key_at;
 use meaning::pair_height;
 use meaning::word;
+use numbers::Numbers;
+use numbers::cells;
+use numbers::room;
 use words::Check;
 use words::Refusal;
 use words::and_then;
@@ -26,16 +27,6 @@ pub enum StepAnswer {
     Changed,
     Unchanged,
     Refused(Refusal),
-}
-
-// Word c of a table, 0 past the end.
-fn read(table: &[u64], c: usize) -> u64
-    ensures { λ v. ⌜ v ≡ getD (now (table .entry)) c 0 ⌝ }
-{
-    if c < table.len() {
-        return table[c];
-    }
-    0
 }
 
 // The key that the words of two sides offer, or EMPTY.
@@ -62,7 +53,7 @@ fn candidate(x: u64, y: u64, k: u16, r: u16) -> u64
 fn take(table: &mut [u64], c: usize, key: u64) -> StepAnswer
     ensures { λ a. ⌜ (a, now (table .exit)) ≡ taken (now (table .entry)) c key ⌝ }
 {
-    if read(table, c) <= key {
+    if key_at(table, c) <= key {
         return StepAnswer::Unchanged;
     }
     let made = Key { word: key }.split();
@@ -80,10 +71,10 @@ fn take(table: &mut [u64], c: usize, key: u64) -> StepAnswer
 fn usable(nodes: u16, rules: usize, v: u64) -> bool
     ensures { λ r. ⌜ r ≡ usableOf nodes rules v ⌝ }
 {
-    if v == Key::EMPTY {
+    let key = Key { word: v };
+    if key.is_empty() {
         return true;
     }
-    let key = Key { word: v };
     let parts = key.split();
     if parts.height < 1 {
         return false;
@@ -129,9 +120,9 @@ fn usable_check(
 ) -> Check
     ensures { λ c. ⌜ c ≡ usableCheck nodes rules (now (table .entry)) target left right ⌝ }
 {
-    let at_target = must(usable(nodes, rules, read(table, target)), 11, target);
-    let at_left = must(usable(nodes, rules, read(table, left)), 11, left);
-    let at_right = must(usable(nodes, rules, read(table, right)), 11, right);
+    let at_target = must(usable(nodes, rules, key_at(table, target)), 11, target);
+    let at_left = must(usable(nodes, rules, key_at(table, left)), 11, left);
+    let at_right = must(usable(nodes, rules, key_at(table, right)), 11, right);
     and_then(at_target, and_then(at_left, at_right))
 }
 
@@ -187,7 +178,7 @@ fn at_cells(
     if let Check::Bad(f) = c {
         return StepAnswer::Refused(f);
     }
-    let key = candidate(read(table, left), read(table, right), k, r);
+    let key = candidate(key_at(table, left), key_at(table, right), k, r);
     take(table, target, key)
 }
 

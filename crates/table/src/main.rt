@@ -7,8 +7,10 @@ use closure::run;
 use deck::ReadAnswer;
 use deck::read;
 use key::Key;
-use lists::Numbers;
-use lists::cells;
+use meaning::key_at;
+use meaning::length_at;
+use numbers::Numbers;
+use numbers::cells;
 use rows::rows;
 use words::Check;
 use words::Refusal;
@@ -21,21 +23,6 @@ fn refused(r: Refusal) {
     io::write_all(1, b" at ");
     io::print_decimal(1, r.place as u64);
     io::write_all(1, b"\n");
-}
-
-// A word past the end is 0, so that reading asks nothing of the caller.
-fn word_at(words: &[u64], c: usize) -> u64 {
-    if c < words.len() {
-        return words[c];
-    }
-    0
-}
-
-fn length_at(lengths: &[u32], c: usize) -> u32 {
-    if c < lengths.len() {
-        return lengths[c];
-    }
-    0
 }
 
 // The line of cell c.
@@ -60,7 +47,7 @@ fn lines(text: &mut [u8], table: &[u64], lengths: &[u32], n: usize, count: usize
     let mut filled: u64 = 0;
     let mut c = 0;
     while c < count {
-        let word = word_at(table, c);
+        let word = key_at(table, c);
         if word != Key::EMPTY {
             at = out::flush(text, at);
             at = line(text, at, n, c, word, length_at(lengths, c));
@@ -85,8 +72,8 @@ fn agree(table: &[u64], bits: &[u64], n: usize, count: usize) -> bool
 {
     let mut c = 0;
     while c < count {
-        let set = is_set(word_at(bits, c / n), c % n);
-        let empty = word_at(table, c) == Key::EMPTY;
+        let set = is_set(key_at(bits, c / n), c % n);
+        let empty = key_at(table, c) == Key::EMPTY;
         if set == empty {
             return false;
         }

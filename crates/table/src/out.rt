@@ -19,21 +19,21 @@ fn copy(text: &mut [u8], at: usize, s: &[u8]) -> usize {
 }
 
 // A number and the byte behind it.
-pub fn put(text: &mut [u8], at: usize, x: u64, end: u8) -> usize {
+pub(crate) fn put(text: &mut [u8], at: usize, x: u64, end: u8) -> usize {
     let mut digits = [0u8; 20];
     let k = io::decimal(x, &mut digits);
     let to = copy(text, at, &digits[..k]);
     byte(text, to, end)
 }
 
-pub fn write(text: &[u8], at: usize) {
+pub(crate) fn write(text: &[u8], at: usize) {
     if at < text.len() {
         io::write_all(1, &text[..at]);
     }
 }
 
 // Room for a line: at most 200 bytes.
-pub fn flush(text: &[u8], at: usize) -> usize {
+pub(crate) fn flush(text: &[u8], at: usize) -> usize {
     if at < 65336 {
         return at;
     }

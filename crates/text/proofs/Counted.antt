@@ -2,20 +2,15 @@
 use mathlib.Core.Path.{_≡_, refl, ap}
 use mathlib.Core.List.{List}
 use Prim.Native.Nat.{ℕ, zero, suc, _*_, _/_, _%_, _≤_, _<_}
-use native.Mathlib.Nat.{div-lt-iff-lt-mul, mod-lt}
 use native.Mathlib.Omega.{arith}
 use Rattle.meaning.specs.Net.{Net, Sane}
 use Rattle.meaning.specs.Trees.{Reached}
 use Rattle.meaning.specs.Final.{FinalTable}
 use Rattle.meaning.proofs.Demand2.{final-filled}
+use Rattle.meaning.proofs.Rows.{row-back}
 use Rattle.meaning.proofs.Recorded.{recorded-one}
 use Rattle.text.specs.Text.{pathText}
 use Rattle.text.specs.Pairs.{Tail, pairLine, Lines}
-
--- cell number c of a nonterminal is at two nodes
-pub nodes-in : (n c : ℕ) → c < n * n → (c / n < n) × (c % n < n)
-nodes-in zero c h = absurd (omega arith)
-nodes-in (suc n) c h = (div-lt-iff-lt-mul {k = suc n} (omega arith) .1 h, mod-lt c {m = suc n} (omega arith))
 
 -- k of the first c numbers have P
 pub data Counted (P : ℕ → Type 0) : ℕ → ℕ → Type 0 where
@@ -45,12 +40,12 @@ module _ {g : Net} (ok : Sane g) {t ls : List ℕ} {A : ℕ} where
       → Counted (λ c. Reached g A (c / g .nodes) (c % g .nodes)) c k
   pairs-reached final a b Lines.none = Counted.none
   pairs-reached final a b (Lines.empty {c} e x) =
-      let h = nodes-in (g .nodes) c b in
+      let h = row-back (g .nodes) (g .nodes) c b in
       Counted.no
-      (λ r. let l = final-filled ok t final A (c / g .nodes) (c % g .nodes) a (h .0) (h .1) .1 r in omega arith)
+      (λ r. let l = final-filled ok t final A (c / g .nodes) (c % g .nodes) a (h .1) (h .2) .1 r in omega arith)
       (pairs-reached final a (omega arith) x)
   pairs-reached final a b (Lines.pair {c} l p x) =
-      let h = nodes-in (g .nodes) c b in
+      let h = row-back (g .nodes) (g .nodes) c b in
       Counted.yes
-      (final-filled ok t final A (c / g .nodes) (c % g .nodes) a (h .0) (h .1) .0 l)
+      (final-filled ok t final A (c / g .nodes) (c % g .nodes) a (h .1) (h .2) .0 l)
       (pairs-reached final a (omega arith) x)

@@ -11,13 +11,13 @@ use Rattle.key.specs.declared.Parts.{Parts}
 use Rattle.meaning.specs.Net.{Net}
 use Rattle.meaning.specs.Table.{at, cell}
 use Rattle.meaning.proofs.Cells.{cell-in}
-use Rattle.lists.specs.declared.Numbers.{Numbers}
+use Rattle.meaning.proofs.Rows.{row-back}
+use Rattle.numbers.specs.declared.Numbers.{Numbers}
 use Rattle.lists.proofs.Right.{accepted, few-cells}
 use Rattle.text.specs.Text.{ascii, pairHead}
 use Rattle.text.specs.Pairs.{pairLine, Lines}
 use Rattle.text.specs.Pen.{Penned, Ready, TailPenned, LinePenned, LinesPenned}
 use Rattle.text.proofs.Pens.{penned-none, penned-more}
-use Rattle.text.proofs.Counted.{nodes-in}
 
 -- cell c of a nonterminal stands c behind its first
 pub cell-behind : (n A c : ℕ) → cell n A (c / n) (c % n) ≡ cell n A 0 0 + c
@@ -74,8 +74,8 @@ module _ {numbers : Numbers} {rules edges t ls : List ℕ} {A : ℕ} (ready : Re
 
   pub ready-behind : (c : ℕ) → c < numbers .nodes * numbers .nodes → CellIn (cell (numbers .nodes) A 0 0 + c)
   ready-behind c h =
-      let b = nodes-in (numbers .nodes) c h in
-      rw (cell-behind (numbers .nodes) A c) at (ready-cell (b .0) (b .1))
+      let b = row-back (numbers .nodes) (numbers .nodes) c h in
+      rw (cell-behind (numbers .nodes) A c) at (ready-cell (b .1) (b .2))
 
   pub ready-few : numbers .nodes * numbers .nodes ≤ 256
   ready-few = mul-le-mul (ready .nodes) (ready .nodes)

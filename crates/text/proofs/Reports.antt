@@ -11,8 +11,9 @@ use Rattle.words.specs.declared.Check.{Check}
 use Rattle.words.specs.declared.Check.the-variants.{Good, Bad}
 use Rattle.words.proofs.Refusals.{must-good, and-good, and-next, and-stop}
 use Rattle.meaning.specs.Lengths.{depth}
-use Rattle.lists.specs.declared.Numbers.{Numbers}
-use Rattle.lists.specs.Lists.{net, cellsOf, listsCheck, roomCheck}
+use Rattle.numbers.specs.declared.Numbers.{Numbers}
+use Rattle.numbers.specs.Numbers.{cellsOf, largeCheck, roomCheck}
+use Rattle.lists.specs.Lists.{net, listsCheck}
 use Rattle.lists.proofs.Right.{accepted as right-lists, sane}
 use Rattle.deck.specs.declared.Header.{Header}
 use Rattle.deck.specs.declared.ReadAnswer.{ReadAnswer}
@@ -24,7 +25,7 @@ use Rattle.closure.specs.declared.RunAnswer.{RunAnswer}
 use Rattle.closure.proofs.Settled.{never-12}
 use Rattle.text.specs.declared.Count.{Count}
 use Rattle.text.specs.Text.{openingLine, closingLine, refusedLine}
-use Rattle.text.specs.Report.{sizeCheck, reportCheck, netIn, Whole, Reported, Report}
+use Rattle.text.specs.Report.{largeDeck, reportCheck, netIn, Whole, Reported, Report}
 use Rattle.text.specs.Pen.{Penned, Ready, Small, Exact, LinesPenned, TextPenned}
 use Rattle.text.proofs.Pens.{penned-more}
 use Rattle.text.proofs.Lined.{ready-few}
@@ -47,7 +48,7 @@ module _ (d : List ℕ) where
 
   -- 13, or the report
   pub read-report : {h : Header} {rules edges l l′ : List ℕ} {r : ℕ} → ReadIs d h rules edges
-      → TextPenned (Reported (sizeCheck h) h (take (3 * h .rules) rules) (take (3 * h .edges) edges)) l l′ r → TextPenned (Report d) l l′ r
+      → TextPenned (Reported (largeDeck h) h (take (3 * h .rules) rules) (take (3 * h .edges) edges)) l l′ r → TextPenned (Report d) l l′ r
   unfolding reportCheck
   read-report s x = rw (and-next (s .check)) (rw (s .rules-are, s .edges-are, s .header) at x)
 
@@ -58,9 +59,14 @@ refused-penned h rules edges e p b = rw e (record { text = _; is = refl; penned 
 
 -- ---- what is small
 
+-- 13, of the numbers that the header holds
+pub told-size : (h : Header) {numbers : Numbers} {check answer : Check} → numbers ≡ numbersIn h → check ≡ largeCheck numbers (h .edges)
+    → check ≡ answer → largeDeck h ≡ answer
+told-size h n large e = sym (rw n at large) ∙ e
+
 module _ {h : Header} {rules edges : List ℕ} where
-  pub sized-small : sizeCheck h ≡ Good → listsCheck (numbersIn h) rules edges ≡ Good → h .query < h .nonterminals → Small h rules edges
-  unfolding sizeCheck
+  pub sized-small : largeDeck h ≡ Good → listsCheck (numbersIn h) rules edges ≡ Good → h .query < h .nonterminals → Small h rules edges
+  unfolding largeCheck
   sized-small e l q =
       let a = and-good _ _ .0 e in
       let b = and-good _ _ .0 (a .1) in

@@ -1,7 +1,7 @@
 -- Two reports of a deck are one text, and the report's promise settles its answer and every byte. Assumes nothing.
 use mathlib.Core.Path.{_≡_, refl, sym, ap, _∙_}
 use mathlib.Core.List.{List}
-use Prim.Native.Nat.{ℕ, _*_, _/_, _%_, _<_}
+use Prim.Native.Nat.{ℕ, _*_, _/_, _%_}
 use native.Mathlib.Omega.{arith}
 use lib.ListN.{length, drop}
 use lib.Seq.{drop-length}
@@ -12,15 +12,16 @@ use Rattle.words.proofs.Refusals.{and-good}
 use Rattle.meaning.specs.Net.{Net, Sane}
 use Rattle.meaning.specs.Trees.{Reached}
 use Rattle.meaning.specs.Table.{cells}
-use Rattle.meaning.proofs.Fronts.{tables-same}
-use Rattle.meaning.proofs.Demand2.{final-tables}
+use Rattle.meaning.specs.Lengths.{depth, Deepest}
+use Rattle.meaning.proofs.Demand2.{final-lists}
+use Rattle.meaning.proofs.Depth.{final-depth}
 use Rattle.meaning.proofs.Right.{final-falling}
 use Rattle.meaning.proofs.Lengths.{lengths-list}
 use Rattle.lists.proofs.Right.{accepted, sane}
 use Rattle.deck.specs.declared.Header.{Header}
 use Rattle.deck.specs.Reads.{headerOf, deckCheck, rulesOf, edgesOf}
+use Rattle.deck.proofs.Handed.{right-deck, limited}
 use Rattle.deck.proofs.Lists.{accepted-lists}
-use Rattle.deck.proofs.Leaves.{read-deck}
 use Rattle.text.specs.declared.ReportAnswer.{ReportAnswer}
 use Rattle.text.specs.declared.ReportAnswer.the-variants.{Wrote, Short}
 use Rattle.text.specs.Report.{reportCheck, netIn, Whole, Reported, Report, ReportIs}
@@ -36,7 +37,7 @@ module _ {h : Header} {rules edges : List ℕ} (ok : Sane (netIn h rules edges))
 
   same-table : x .table ≡ y .table
   same-table =
-      tables-same g (x .table) (y .table) (x .final .long) (y .final .long) (final-tables (x .table) (y .table) (x .final) (y .final))
+      final-lists (x .table) (y .table) (x .final) (y .final)
       (no-rest (cells g) (x .table) (y .table) (x .size) (y .size))
 
   same-lengths : x .lengths ≡ y .lengths
@@ -51,7 +52,7 @@ module _ {h : Header} {rules edges : List ℕ} (ok : Sane (netIn h rules edges))
 
 -- an accepted deck's grammar and graph are sane
 sane-deck : (d : List ℕ) → deckCheck d ≡ Good → Sane (netIn (headerOf d) (rulesOf d) (edgesOf d))
-sane-deck d e = sane _ _ _ (accepted _ _ _ (accepted-lists d 768 12288 (read-deck d ∙ e)))
+sane-deck d e = sane _ _ _ (accepted _ _ _ (accepted-lists d e))
 
 -- the report of a deck is one text
 pub report-one : (d : List ℕ) {v w : List ℕ} → Report d v → Report d w → v ≡ w
@@ -78,10 +79,17 @@ report-settled d entry x y (Wrote n) (Wrote m) (_, e) (_, f) =
       text = e .text ∙ ap (λ w. over w entry) o ∙ sym (f .text);
     }
 
--- "a report with invented pairs or depth": pairs are as many as demand 2 reaches from the queried nonterminal
-pub report-pairs : (d : List ℕ) → reportCheck d ≡ Good → {w : List ℕ} (x : Whole (headerOf d) (rulesOf d) (edgesOf d) w)
-    → headerOf d .query < headerOf d .nonterminals
-    → Counted (λ c. Reached (netIn (headerOf d) (rulesOf d) (edgesOf d)) (headerOf d .query) (c / headerOf d .nodes) (c % headerOf d .nodes))
-    (headerOf d .nodes * headerOf d .nodes) (x .pairs)
-unfolding reportCheck
-report-pairs d e x q = pairs-reached (sane-deck d (and-good _ _ .0 e .0)) (x .final) q (omega arith) (x .each)
+-- "a report with invented pairs or depth", "both are counts of demand 2's cells"
+module _ (d : List ℕ) (e : reportCheck d ≡ Good) {w : List ℕ} (x : Whole (headerOf d) (rulesOf d) (edgesOf d) w) where
+  right : deckCheck d ≡ Good
+  unfolding reportCheck
+  right = and-good _ _ .0 e .0
+
+  -- pairs are as many as it reaches from the queried nonterminal
+  pub report-pairs : Counted (λ c. Reached (netIn (headerOf d) (rulesOf d) (edgesOf d)) (headerOf d .query) (c / headerOf d .nodes) (c % headerOf d .nodes))
+      (headerOf d .nodes * headerOf d .nodes) (x .pairs)
+  report-pairs = pairs-reached (sane-deck d right) (x .final) (limited d (right-deck d right .header) .query) (omega arith) (x .each)
+
+  -- and the depth is the largest of its heights
+  pub report-depth : Deepest (netIn (headerOf d) (rulesOf d) (edgesOf d)) (depth (x .table) (cells (netIn (headerOf d) (rulesOf d) (edgesOf d))))
+  report-depth = final-depth (sane-deck d right) (x .table) (x .final)

@@ -4,16 +4,14 @@ use mathlib.Core.List.{List}
 use mathlib.Core.Logic.{⊎-elim}
 use Prim.Native.Nat.{ℕ, _+_, _*_, _≤_, _<_}
 use native.Mathlib.Omega.{arith}
-use lib.ListN.{length, take, drop}
-use lib.Seq.{take-at}
+use lib.ListN.{length, take}
 use Rattle.words.specs.declared.Refusal.{Refusal}
 use Rattle.words.specs.declared.Check.the-variants.{Bad}
-use Rattle.words.specs.Tab.{over}
-use Rattle.words.proofs.Tab.{length-over}
+use Rattle.words.proofs.Tab.{length-over, take-over}
 use Rattle.words.proofs.Refusals.{good-bad}
 use Rattle.meaning.specs.Table.{at}
 use Rattle.meaning.proofs.Recorded.{recorded-length}
-use Rattle.lists.specs.declared.Numbers.{Numbers}
+use Rattle.numbers.specs.declared.Numbers.{Numbers}
 use Rattle.lists.specs.Lists.{net}
 use Rattle.lists.proofs.Right.{accepted, sane}
 use Rattle.witness.specs.Answers.{witnessCheck, Answered, Witnessed}
@@ -42,7 +40,6 @@ module _ (numbers : Numbers) (rules edges t ls : List ℕ) (A i j : ℕ) where
 
   pub tail-shown : {entry exit : List ℕ} {n : ℕ} {r : WitnessAnswer} → length entry ≤ 1024 → r ≡ Wrote n
       → Witnessed numbers rules edges A i j t ls entry exit r → Shown exit n
-  unfolding over
   tail-shown {entry} {exit} {n} room e w = go (rw e at w)
     where
       go : Witnessed numbers rules edges A i j t ls entry exit (Wrote n) → Shown exit n
@@ -50,7 +47,7 @@ module _ (numbers : Numbers) (rules edges t ls : List ℕ) (A i j : ℕ) where
           let h = witness-good numbers rules edges t ls A i j (length entry) .0 good in
           let e = recorded-length (sane numbers rules edges (accepted numbers rules edges (h .0 .lists))) (h .0 .right) way (h .2) in
           let few : length p ≤ length entry = omega (arith, h .3) in
-          let same : take n exit ≡ p = rw words (take-at p (drop (length p) entry) n (sym count)) in
+          let same : take n exit ≡ p = rw words (take-over p entry n (sym count)) in
           record {
             fits = omega (arith, count, ap length words ∙ length-over p entry few);
             count = ap length same ∙ sym count;

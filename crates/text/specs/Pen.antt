@@ -10,8 +10,9 @@ use Rattle.meaning.specs.Net.{Net}
 use Rattle.meaning.specs.Table.{at}
 use Rattle.meaning.specs.Final.{FinalTable}
 use Rattle.meaning.specs.Lengths.{Lengths}
-use Rattle.lists.specs.declared.Numbers.{Numbers}
-use Rattle.lists.specs.Lists.{net, cellsOf, listsCheck}
+use Rattle.numbers.specs.declared.Numbers.{Numbers}
+use Rattle.numbers.specs.Numbers.{cellsOf}
+use Rattle.lists.specs.Lists.{net, listsCheck}
 use Rattle.deck.specs.declared.Header.{Header}
 use Rattle.deck.specs.Reads.{numbersIn}
 use Rattle.text.specs.Pairs.{Tail, pairLine, Lines}

@@ -3,15 +3,15 @@ use mathlib.Core.Path.{_≡_}
 use mathlib.Core.List.{List, _++_}
 use Prim.Native.Nat.{ℕ, _*_, _≤_, _<_}
 use lib.ListN.{length}
-use lib.Dec.{leb}
 use Rattle.words.specs.declared.Check.{Check}
 use Rattle.words.specs.declared.Check.the-variants.{Good, Bad}
-use Rattle.words.specs.Refusals.{must, _andThen_}
+use Rattle.words.specs.Refusals.{_andThen_}
 use Rattle.words.specs.Tab.{over}
 use Rattle.meaning.specs.Net.{Net}
 use Rattle.meaning.specs.Table.{cells}
 use Rattle.meaning.specs.Final.{FinalTable}
 use Rattle.meaning.specs.Lengths.{Lengths, depth}
+use Rattle.numbers.specs.Numbers.{largeCheck}
 use Rattle.lists.specs.Lists.{net}
 use Rattle.deck.specs.declared.Header.{Header}
 use Rattle.deck.specs.Reads.{headerOf, numbersIn, deckCheck, rulesOf, edgesOf}
@@ -20,14 +20,13 @@ use Rattle.text.specs.Pairs.{Lines}
 use Rattle.text.specs.declared.ReportAnswer.{ReportAnswer}
 use Rattle.text.specs.declared.ReportAnswer.the-variants.{Wrote, Short}
 
--- 13: "over 16 nodes, 8 nonterminals or 1,024 edges", "0, 1 or 5"
-unfoldable pub sizeCheck : Header → Check
-sizeCheck h =
-    must (leb (h .nodes) 16) 13 0 andThen must (leb (h .nonterminals) 8) 13 1 andThen must (leb (h .edges) 1024) 13 5
+-- 13, of the deck's header
+abbrev pub largeDeck : Header → Check
+largeDeck h = largeCheck (numbersIn h) (h .edges)
 
 -- "For refusals 1 to 9 and 13 (after 9) it writes `refused N at P`."
 unfoldable pub reportCheck : List ℕ → Check
-reportCheck d = deckCheck d andThen sizeCheck (headerOf d)
+reportCheck d = deckCheck d andThen largeDeck (headerOf d)
 
 -- the grammar and the graph that a header and the reader's two lists give
 abbrev pub netIn : Header → List ℕ → List ℕ → Net

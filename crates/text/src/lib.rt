@@ -3,20 +3,20 @@ ghost use mathlib.Core.Path.{_≡_};
 ghost use Prim.Native.Nat.{_<_};
 ghost use Rattle.words.specs.declared.Check.the-variants.{Good};
 ghost use Rattle.meaning.specs.Lengths.{depth as depthOf};
-ghost use Rattle.lists.specs.Lists.{cellsOf, listsCheck};
+ghost use Rattle.numbers.specs.Numbers.{cellsOf};
+ghost use Rattle.lists.specs.Lists.{listsCheck};
 ghost use Rattle.deck.specs.Reads.{numbersIn};
-ghost use Rattle.text.specs.Report.{sizeCheck, Whole, Reported, Report, ReportIs};
+ghost use Rattle.text.specs.Report.{largeDeck, Whole, Reported, Report, ReportIs};
 ghost use Rattle.text.specs.Pen.{Ready, Small, Exact, TextPenned};
 use closure::RunAnswer;
 use closure::run;
 use deck::Header;
 use deck::ReadAnswer;
 use deck::read;
-use lists::Numbers;
-use lists::cells;
+use numbers::Numbers;
+use numbers::cells;
+use numbers::large;
 use words::Check;
-use words::and_then;
-use words::must;
 
 mod lines;
 mod pairs;
@@ -44,16 +44,6 @@ fn numbers_in(h: Header) -> Numbers
         nonterminals: h.nonterminals,
         labels: h.labels,
     }
-}
-
-// 13: over 16 nodes, 8 nonterminals or 1,024 edges.
-fn size_check(h: Header) -> Check
-    ensures { λ r. ⌜ r ≡ sizeCheck h ⌝ }
-{
-    let nodes = must(h.nodes <= 16, 13, 0);
-    let nonterminals = must(h.nonterminals <= 8, 13, 1);
-    let edges = must(h.edges <= 1024, 13, 5);
-    and_then(nodes, and_then(nonterminals, edges))
 }
 
 // The report of a table that is closed.
@@ -126,9 +116,9 @@ fn accepted(text: &mut [u8], h: Header, rules: &[u16], edges: &[u16]) -> usize
 fn sized(text: &mut [u8], h: Header, rules: &[u16], edges: &[u16]) -> usize
     requires { ⌜ listsCheck (numbersIn h) (now rules) (now edges) ≡ Good ⌝ }
     requires { ⌜ h .query < h .nonterminals ⌝ }
-    ensures { λ r. ⌜ TextPenned (Reported (sizeCheck h) h (now (rules .entry)) (now (edges .entry))) (now (text .entry)) (now (text .exit)) r ⌝ }
+    ensures { λ r. ⌜ TextPenned (Reported (largeDeck h) h (now (rules .entry)) (now (edges .entry))) (now (text .entry)) (now (text .exit)) r ⌝ }
 {
-    let check = size_check(h);
+    let check = large(numbers_in(h), h.edges);
     match check {
         Check::Good => accepted(text, h, rules, edges),
         Check::Bad(r) => lines::refused(text, 0, r.number as u64, r.place as u64),

@@ -29,7 +29,7 @@ fn row(text: &mut [u8], at: usize, s: &[u8], x: u64, t: &[u8], y: u64, u: &[u8])
     letters(text, to, u)
 }
 
-pub fn opening(
+pub(crate) fn opening(
     text: &mut [u8],
     at: usize,
     nodes: u64,
@@ -53,7 +53,7 @@ pub fn opening(
     )
 }
 
-pub fn closing(text: &mut [u8], at: usize, pairs: u64, depth: u64) -> usize
+pub(crate) fn closing(text: &mut [u8], at: usize, pairs: u64, depth: u64) -> usize
     requires { ⌜ at < 9223372036854770000 ⌝ }
     ensures { λ r. ⌜ Penned (now (text .entry)) (now (text .exit)) at r (closingLine pairs depth) ⌝ }
     ensures { λ r. ⌜ r ≤ at + 200 ⌝ }
@@ -61,7 +61,7 @@ pub fn closing(text: &mut [u8], at: usize, pairs: u64, depth: u64) -> usize
     row(text, at, b"pairs ", pairs, b" depth ", depth, b"\n")
 }
 
-pub fn refused(text: &mut [u8], at: usize, refusal: u64, place: u64) -> usize
+pub(crate) fn refused(text: &mut [u8], at: usize, refusal: u64, place: u64) -> usize
     requires { ⌜ at < 9223372036854770000 ⌝ }
     ensures { λ r. ⌜ Penned (now (text .entry)) (now (text .exit)) at r (refusedLine refusal place) ⌝ }
     ensures { λ r. ⌜ r ≤ at + 200 ⌝ }
@@ -78,7 +78,7 @@ fn edge(text: &mut [u8], at: usize, e: u16) -> usize
 }
 
 // The edge numbers of a path, each behind a space.
-pub fn path(text: &mut [u8], at: usize, edges: &[u16]) -> usize
+pub(crate) fn path(text: &mut [u8], at: usize, edges: &[u16]) -> usize
     requires { ⌜ (at < 4611686018427387904) × (length (now edges) ≤ 65536) ⌝ }
     ensures { λ r. ⌜ Penned (now (text .entry)) (now (text .exit)) at r (pathText (now (edges .entry))) ⌝ }
     ensures { λ r. ⌜ r ≤ at + 6 * length (now (edges .entry)) ⌝ }
@@ -93,7 +93,7 @@ pub fn path(text: &mut [u8], at: usize, edges: &[u16]) -> usize
 }
 
 // A pair's line up to its colon.
-pub fn pair(
+pub(crate) fn pair(
     text: &mut [u8],
     at: usize,
     i: u64,

@@ -9,8 +9,8 @@ use crate::lines::pair;
 use crate::lines::path;
 use crate::pen::letters;
 use key::Key;
-use lists::Numbers;
 use meaning::cell;
+use numbers::Numbers;
 use witness::WitnessAnswer;
 use witness::witness;
 
@@ -75,7 +75,7 @@ fn line(
 }
 
 // Where the pen stands after the lines, and how many there are.
-pub fn pairs(
+pub(crate) fn pairs(
     text: &mut [u8],
     at: usize,
     numbers: Numbers,
@@ -97,19 +97,9 @@ pub fn pairs(
     while c < n * n {
         let k = first + c;
         if table[k] != Key::EMPTY {
-            to = line(
-                text,
-                to,
-                numbers,
-                rules,
-                edges,
-                a,
-                c / n,
-                c % n,
-                k,
-                table,
-                lengths,
-            );
+            let i = c / n;
+            let j = c % n;
+            to = line(text, to, numbers, rules, edges, a, i, j, k, table, lengths);
             pairs += 1;
         }
         c += 1;

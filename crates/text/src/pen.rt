@@ -17,7 +17,7 @@ fn byte(text: &mut [u8], at: usize, b: u8) -> usize
     at + 1
 }
 
-pub fn letters(text: &mut [u8], at: usize, s: &[u8]) -> usize
+pub(crate) fn letters(text: &mut [u8], at: usize, s: &[u8]) -> usize
     requires { ⌜ at + length (now s) < 9223372036854775808 ⌝ }
     ensures { λ r. ⌜ Penned (now (text .entry)) (now (text .exit)) at r (now (s .entry)) ⌝ }
 {
@@ -31,7 +31,7 @@ pub fn letters(text: &mut [u8], at: usize, s: &[u8]) -> usize
 }
 
 // The digits of x, the last one behind those of x / 10.
-pub fn number(text: &mut [u8], at: usize, x: u64) -> usize
+pub(crate) fn number(text: &mut [u8], at: usize, x: u64) -> usize
     requires { ⌜ at + 20 < 9223372036854775808 ⌝ }
     ensures { λ r. ⌜ Penned (now (text .entry)) (now (text .exit)) at r (decimal x) ⌝ }
     ensures { λ r. ⌜ r ≤ at + 20 ⌝ }

@@ -1,24 +1,20 @@
 -- What the checks of lists, arguments and table are good for. Assumes nothing.
 use mathlib.Core.Path.{_≡_}
 use mathlib.Core.List.{List}
-use mathlib.Core.Logic.{_↔_}
-use Prim.Native.Nat.{ℕ, _≤_}
-use borrow.Author.Tests.{ltb-true, leb-true, le-leb}
+use Prim.Native.Nat.{ℕ}
+use borrow.Author.Tests.{ltb-true}
 use Rattle.words.specs.declared.Check.the-variants.{Good}
 use Rattle.words.specs.Refusals.{_andThen_}
 use Rattle.words.proofs.Refusals.{must-good, and-good, scan-good}
 use Rattle.meaning.specs.Lengths.{RightCell, RightTable}
 use Rattle.meaning.proofs.Cells.{numbers-cells, cells-numbers}
 use Rattle.meaning.proofs.Computed.{right-true, true-right}
-use Rattle.lists.specs.Lists.{net, listsCheck, roomCheck}
-use Rattle.lists.specs.declared.Numbers.{Numbers}
+use Rattle.lists.specs.Lists.{net, listsCheck}
+use Rattle.numbers.specs.declared.Numbers.{Numbers}
+use Rattle.numbers.proofs.Right.{room-good}
 use Rattle.lists.proofs.Right.{accepted}
 use Rattle.witness.specs.Answers.{cellCheck, tableCheck, argumentsCheck}
 use Rattle.witness.specs.Walks.{Sizes, Asked}
-
-pub room-good : (place want have : ℕ) → (roomCheck place want have ≡ Good) ↔ (want ≤ have)
-unfolding roomCheck
-room-good place want have = (λ e. leb-true _ _ (must-good _ _ _ .0 e), λ h. must-good _ _ _ .1 (le-leb _ _ h))
 
 module _ (numbers : Numbers) (rules edges : List ℕ) where
   pub sizes : listsCheck numbers rules edges ≡ Good → Sizes numbers

@@ -9,7 +9,7 @@ use Rattle.words.specs.Tab.{over}
 use Rattle.words.proofs.Refusals.{good-bad, bad-same, and-good}
 use Rattle.meaning.specs.Net.{Net, Sane}
 use Rattle.meaning.proofs.Recorded.{recorded-one}
-use Rattle.lists.specs.declared.Numbers.{Numbers}
+use Rattle.numbers.specs.declared.Numbers.{Numbers}
 use Rattle.witness.specs.Answers.{checkAnswer, witnessCheck, Answered, Windowed, Witnessed}
 use Rattle.witness.specs.declared.WitnessAnswer.{WitnessAnswer}
 use Rattle.witness.specs.declared.WitnessAnswer.the-variants.{Wrote, Refused}

@@ -1,13 +1,13 @@
 -- A window of a path that is two paths one after the other, and the words of a buffer that two walks write. Assumes nothing.
-use mathlib.Core.Path.{_≡_, refl, ap, _∙_}
-use mathlib.Core.List.{List, [], _∷_, _++_, append-assoc, append-nil}
+use mathlib.Core.Path.{_≡_, refl, sym, ap, _∙_}
+use mathlib.Core.List.{List, [], _∷_, _++_, append-nil}
 use Prim.Native.Nat.{ℕ, zero, suc, _+_, _-_, _≤_, min}
 use native.Mathlib.Omega.{arith}
 use lib.ListN.{length, take, drop, length-append, length-take, length-drop, drop-of-length-le}
-use lib.Seq.{take-all, take-at, drop-at, drop-drop, take-nil, drop-nil, take-add}
+use lib.Seq.{take-all, drop-drop, take-nil, drop-nil, take-add}
 use borrow.Rule.Slice.PartMut.{putMid}
 use Rattle.words.specs.Tab.{over}
-use Rattle.words.proofs.Tab.{length-over}
+use Rattle.words.proofs.Tab.{over-append, length-over, take-over, drop-over}
 use Rattle.witness.specs.Answers.{part}
 use Rattle.witness.specs.Walks.{Written}
 
@@ -56,24 +56,19 @@ written-none l = record { count = refl; words = refl }
 
 -- the first walk writes x to the front of l, the second one y to the part that is left
 module _ (x y l : List ℕ) (hx : length x ≤ length l) where
-  front : drop (length x) (over x l) ≡ drop (length x) l
-  unfolding over
-  front = drop-at x (drop (length x) l) (length x) refl
-
   rest : length (drop (length x) l) ≡ length l - length x
   rest = length-drop (length x) l
 
   pub left-free : take (length (over x l) - length x) (drop (length x) (over x l)) ≡ drop (length x) l
-  left-free = rw (length-over x l hx, front) (take-all (length l - length x) (drop (length x) l) (omega (arith, rest)))
+  left-free = rw (length-over x l hx, drop-over x l (length x) refl) (take-all (length l - length x) (drop (length x) l) (omega (arith, rest)))
 
   front-both : take (length x) (over x l) ++ over y (drop (length x) l) ≡ over (x ++ y) l
-  unfolding over
-  front-both = rw (take-at x (drop (length x) l) (length x) refl, append-assoc, length-append, drop-drop)
+  front-both = rw (take-over x l (length x) refl) (sym (over-append x y l))
 
   pub put-both : putMid (length x) (length (over x l) - length x) (over x l) (over y (drop (length x) l)) ≡ over (x ++ y) l
   put-both =
       let none : drop (length l - length x) (drop (length x) l) ≡ [] = drop-of-length-le (drop (length x) l) {i = length l - length x} (omega (arith, rest)) in
-      rw (length-over x l hx, front, none, append-nil) front-both
+      rw (length-over x l hx, drop-over x l (length x) refl, none, append-nil) front-both
 
 -- the two walks together
 module _ (from : ℕ) (x y l : List ℕ) where

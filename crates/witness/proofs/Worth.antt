@@ -15,7 +15,7 @@ use Rattle.meaning.specs.Final.{FinalTable}
 use Rattle.meaning.specs.Lengths.{Lengths, RightTable}
 use Rattle.meaning.proofs.Right.{final-right}
 use Rattle.meaning.proofs.Recorded.{recorded-one, recorded-reach, recorded-length, recorded-tall}
-use Rattle.lists.specs.declared.Numbers.{Numbers}
+use Rattle.numbers.specs.declared.Numbers.{Numbers}
 use Rattle.lists.specs.Lists.{net, listsCheck}
 use Rattle.lists.proofs.Right.{accepted, sane}
 use Rattle.witness.specs.Answers.{checkAnswer, witnessCheck, part, Answered, Windowed, Witnessed}
@@ -75,6 +75,6 @@ module _ (numbers : Numbers) (rules edges t ls : List ℕ) (a i j : ℕ) where
           ⊎ ((witnessCheck numbers rules edges a i j t ls words ≡ refused 10 2) × NoRoom words (at n ls a i j))
       run-witness words =
           ⊎-elim
-          (λ h. inr (witness-ten numbers rules edges t ls a i j words ask filled .1 h, h))
+          (λ h. inr (witness-ten numbers rules edges t ls a i j words .1 (ask, filled, h), h))
           (λ h. inl (witness-good numbers rules edges t ls a i j words .1 (ask, filled, h .0, h .1)))
           (room-or-not words (at n ls a i j))

@@ -11,14 +11,16 @@ use Rattle.meaning.specs.Net.{Sane}
 use Rattle.meaning.specs.Table.{at}
 use Rattle.meaning.specs.Lengths.{HELD, Recorded}
 use Rattle.meaning.proofs.Recorded.{recorded-some, recorded-length}
-use Rattle.lists.specs.Lists.{net, roomCheck}
-use Rattle.lists.specs.declared.Numbers.{Numbers}
+use Rattle.numbers.specs.Numbers.{roomCheck}
+use Rattle.lists.specs.Lists.{net}
+use Rattle.numbers.specs.declared.Numbers.{Numbers}
+use Rattle.numbers.proofs.Right.{room-good}
 use Rattle.lists.proofs.Right.{RightLists, accepted, sane}
 use Rattle.witness.specs.Answers.{windowCheck, witnessCheck, part, Answered, Windowed, Witnessed}
 use Rattle.witness.specs.Walks.{Asked, Ready, Written, Walked}
 use Rattle.witness.specs.declared.Spot.{Spot}
 use Rattle.witness.specs.declared.WitnessAnswer.the-variants.{Wrote}
-use Rattle.witness.proofs.Accepts.{room-good, sizes}
+use Rattle.witness.proofs.Accepts.{sizes}
 use Rattle.witness.proofs.Exact.{Ask, window-good}
 use Rattle.witness.proofs.Windows.{part-whole}
 

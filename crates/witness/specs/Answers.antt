@@ -14,8 +14,9 @@ use Rattle.meaning.specs.Net.{Net}
 use Rattle.meaning.specs.Table.{at, cell}
 use Rattle.meaning.specs.Lengths.{HELD, Recorded}
 use Rattle.meaning.specs.Computed.{rightCell}
-use Rattle.lists.specs.declared.Numbers.{Numbers}
-use Rattle.lists.specs.Lists.{net, cellsOf, listsCheck, roomCheck}
+use Rattle.numbers.specs.declared.Numbers.{Numbers}
+use Rattle.numbers.specs.Numbers.{cellsOf, roomCheck}
+use Rattle.lists.specs.Lists.{net, listsCheck}
 use Rattle.witness.specs.declared.WitnessAnswer.{WitnessAnswer}
 use Rattle.witness.specs.declared.WitnessAnswer.the-variants.{Wrote, Refused}
 
@@ -45,7 +46,7 @@ argumentsCheck numbers a i j =
 unfoldable pub pathCheck : ℕ → ℕ → ℕ → ℕ → List ℕ → List ℕ → Check
 pathCheck n a i j t ls = must (ltb (at n t a i j) EMPTY) 14 (cell n a i j) andThen must (ltb (at n ls a i j) HELD) 10 2
 
--- what a window of a witness is refused for: "a witness 15, 10 for table and lengths, 11, 14"
+-- what a window of a witness is refused for: "a witness 15, 10 for table and lengths, 11, 14", and 10 for a length that is held
 unfoldable pub windowCheck : Numbers → List ℕ → List ℕ → ℕ → ℕ → ℕ → List ℕ → List ℕ → Check
 windowCheck numbers rules edges a i j t ls =
     listsCheck numbers rules edges

@@ -14,7 +14,7 @@ use Rattle.meaning.specs.Trees.{joined}
 use Rattle.meaning.specs.Table.{at}
 use Rattle.meaning.specs.Lengths.{HELD, heldSum, RightTable, Recorded}
 use Rattle.meaning.specs.Computed.{isPair, isLeaf, lowestEdge}
-use Rattle.lists.specs.declared.Numbers.{Numbers}
+use Rattle.numbers.specs.declared.Numbers.{Numbers}
 use Rattle.witness.specs.Answers.{part}
 use Rattle.witness.specs.declared.Found.{Found}
 use Rattle.witness.specs.declared.Found.the-variants.{At, Nothing}

@@ -13,12 +13,14 @@ ghost use Rattle.witness.specs.Answers.{cellCheck, tableCheck, checkAnsw
 ghost use Rattle.witness.specs.Walks.{foundEdge, atSpot, spotOf, leftOf, rightOf, sidesRight, leafRight, pairRight, Sizes, Asked, EdgeReady, Ready, ReadyPair, Written, Walked};
 use key::Key;
 use key::Parts;
-use lists::Numbers;
-use lists::room;
 use meaning::cell;
 use meaning::held_sum;
+use meaning::key_at;
+use meaning::length_at;
 use meaning::pair_height;
 use meaning::word;
+use numbers::Numbers;
+use numbers::room;
 use words::Check;
 use words::Refusal;
 use words::and_then;
@@ -44,25 +46,16 @@ struct Spot {
 
 // ---- what a cell holds
 
-// A cell past the end reads as 0, so that reading asks nothing of the caller.
-fn key_at(table: &[u64], s: Spot) -> u64
+fn key_of(table: &[u64], s: Spot) -> u64
     ensures { λ r. ⌜ r ≡ atSpot (now (table .entry)) s ⌝ }
 {
-    let c = cell(s.nodes, s.a, s.i, s.j);
-    if table.len() <= c {
-        return 0;
-    }
-    table[c]
+    key_at(table, cell(s.nodes, s.a, s.i, s.j))
 }
 
-fn length_at(lengths: &[u32], s: Spot) -> u32
+fn length_of(lengths: &[u32], s: Spot) -> u32
     ensures { λ r. ⌜ r ≡ atSpot (now (lengths .entry)) s ⌝ }
 {
-    let c = cell(s.nodes, s.a, s.i, s.j);
-    if lengths.len() <= c {
-        return 0;
-    }
-    lengths[c]
+    length_at(lengths, cell(s.nodes, s.a, s.i, s.j))
 }
 
 fn parts_of(word: u64) -> Parts
@@ -175,18 +168,18 @@ fn is_pair(rules: &[u16], a: u16, r: u16) -> bool
 fn sides_right(table: &[u64], lengths: &[u32], x: Spot, y: Spot, height: u32, length: u32) -> bool
     ensures { λ r. ⌜ r ≡ sidesRight (now (table .entry)) (now (lengths .entry)) x y height length ⌝ }
 {
-    let left = key_at(table, x);
+    let left = key_of(table, x);
     if Key::EMPTY <= left {
         return false;
     }
-    let right = key_at(table, y);
+    let right = key_of(table, y);
     if Key::EMPTY <= right {
         return false;
     }
     if height as u64 != pair_height(height_of(left), height_of(right)) {
         return false;
     }
-    length == held_sum(length_at(lengths, x), length_at(lengths, y))
+    length == held_sum(length_of(lengths, x), length_of(lengths, y))
 }
 
 // Whether a cell of height 1 has its rule, its edge, its middle and its length.
@@ -236,8 +229,8 @@ fn pair_right(
 fn cell_right(rules: &[u16], edges: &[u16], table: &[u64], lengths: &[u32], s: Spot) -> bool
     ensures { λ r. ⌜ r ≡ rightCell (s .nodes) (now (rules .entry)) (now (edges .entry)) (now (table .entry)) (now (lengths .entry)) (s .a) (s .i) (s .j) ⌝ }
 {
-    let held = key_at(table, s);
-    let length = length_at(lengths, s);
+    let held = key_of(table, s);
+    let length = length_of(lengths, s);
     if held == Key::EMPTY {
         return length == 0;
     }
@@ -371,7 +364,7 @@ fn past(from: usize, length: u32) -> usize
 fn before(lengths: &[u32], s: Spot, from: usize) -> bool
     ensures { λ r. ⌜ r ≡ leb (atSpot (now (lengths .entry)) s) from ⌝ }
 {
-    length_at(lengths, s) as usize <= from
+    length_of(lengths, s) as usize <= from
 }
 
 // Reads a cell and writes the edges of its path from position `from` on, as many as fit. Answers how many.
@@ -394,7 +387,7 @@ fn walk(
     if path.len() == 0 {
         return 0;
     }
-    let parts = parts_of(key_at(table, s));
+    let parts = parts_of(key_of(table, s));
     if parts.height == 1 {
         write_edge(rules, edges, s, parts.rule, path)
     } else {
@@ -419,7 +412,7 @@ fn expand(
     let left = left_of(rules, s, key);
     let right = right_of(rules, s, key);
     let w = walk(rules, edges, table, lengths, left, from, path);
-    let rest = past(from, length_at(lengths, left));
+    let rest = past(from, length_of(lengths, left));
     let v = walk(rules, edges, table, lengths, right, rest, &mut path[w..]);
     w + v
 }
@@ -440,11 +433,11 @@ fn path_check(table: &[u64], lengths: &[u32], s: Spot) -> Check
     ensures { λ r. ⌜ r ≡ pathCheck (s .nodes) (s .a) (s .i) (s .j) (now (table .entry)) (now (lengths .entry)) ⌝ }
 {
     let filled = must(
-        key_at(table, s) < Key::EMPTY,
+        key_of(table, s) < Key::EMPTY,
         14,
         cell(s.nodes, s.a, s.i, s.j),
     );
-    and_then(filled, must(length_at(lengths, s) < 4294967295, 10, 2))
+    and_then(filled, must(length_of(lengths, s) < 4294967295, 10, 2))
 }
 
 // The spot of arguments in range.
@@ -529,7 +522,7 @@ pub fn witness(
         return WitnessAnswer::Refused(r);
     }
     let s = asked_spot(numbers, a, i, j);
-    let roomy = room(2, length_at(lengths, s) as usize, path.len());
+    let roomy = room(2, length_of(lengths, s) as usize, path.len());
     if let Check::Bad(r) = roomy {
         return WitnessAnswer::Refused(r);
     }

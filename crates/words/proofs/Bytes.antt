@@ -27,16 +27,6 @@ unfolding leAt
 leAt-past zero s p h = refl
 leAt-past (suc n) s p h = rw (List·getD-eq-default s 0 h, leAt-past n s (p + 1) (omega arith))
 
--- it depends on its own bytes alone
-pub leAt-same :
-    (n : ℕ) (s t : List ℕ) (p : ℕ) →
-    ((i : ℕ) → p ≤ i → i < p + n → getD s i 0 ≡ getD t i 0) →
-    leAt n s p ≡ leAt n t p
-unfolding leAt
-leAt-same zero s t p e = refl
-leAt-same (suc n) s t p e =
-    rw (e p (omega arith) (omega arith), leAt-same n s t (p + 1) (λ i l h. e i (omega arith) (omega arith)))
-
 -- ---- a number that is written
 
 -- its low part, and behind it its high part
@@ -81,19 +71,12 @@ unfolding putLe
 putLe-past zero s p x h = refl
 putLe-past (suc n) s p x h = rw (set-out s p (x % 256) h) (putLe-past n s (p + 1) (x / 256) (omega arith))
 
--- the other positions keep their values
+-- the positions before it keep their values
 pub getD-putLe-before : (n : ℕ) (s : List ℕ) (p x i : ℕ) → i < p → getD (putLe n s p x) i 0 ≡ getD s i 0
 unfolding putLe
 getD-putLe-before zero s p x i h = refl
 getD-putLe-before (suc n) s p x i h =
     getD-putLe-before n (set s p (x % 256)) (p + 1) (x / 256) i (omega arith)
-    ∙ getD-set-other s p i (x % 256) 0 (omega arith)
-
-pub getD-putLe-after : (n : ℕ) (s : List ℕ) (p x i : ℕ) → p + n ≤ i → getD (putLe n s p x) i 0 ≡ getD s i 0
-unfolding putLe
-getD-putLe-after zero s p x i h = refl
-getD-putLe-after (suc n) s p x i h =
-    getD-putLe-after n (set s p (x % 256)) (p + 1) (x / 256) i (omega arith)
     ∙ getD-set-other s p i (x % 256) 0 (omega arith)
 
 -- ---- both

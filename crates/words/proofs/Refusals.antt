@@ -1,5 +1,5 @@
 -- Laws of refusals in an order: 'given exactly when', and 'the lowest place'. Assumes nothing.
-use mathlib.Core.Bool.{Bool, true, false, true≢false, false≢true}
+use mathlib.Core.Bool.{Bool, true, false, _&&_, true≢false, false≢true}
 use mathlib.Core.Path.{_≡_, refl, sym, ap, subst, _∙_}
 use mathlib.Core.Logic.{_↔_, _⊎_, _≢_, inl, inr, ⊎-elim}
 use Prim.Native.Nat.{ℕ, zero, suc, _+_, _<_}
@@ -22,6 +22,12 @@ bad-same {r} {s} e = cc
 module _ {k p l q : ℕ} (e : refused k p ≡ refused l q) where
   pub same-place : p ≡ q
   same-place = ap (λ (r : Refusal). r .place) (bad-same e)
+
+-- ---- two tests
+
+pub both : (a b : Bool) → (a && b ≡ true) ↔ ((a ≡ true) × (b ≡ true))
+both true b = (λ e. (refl, e), λ h. h .1)
+both false b = (λ e. absurd (false≢true e), λ h. h .0)
 
 -- ---- one check
 
@@ -130,15 +136,48 @@ must-given b k p q = (
   λ h. must-bad b k p _ .1 (h .0, rw (h .1)),
 )
 
+-- a check before others of its number refuses at its own place where its test fails; otherwise they decide
+pub must-next : (b : Bool) (k q : ℕ) (y : Check) (p : ℕ)
+    → (must b k q andThen y ≡ refused k p) ↔ (((b ≡ false) × (p ≡ q)) ⊎ ((b ≡ true) × (y ≡ refused k p)))
+unfolding must _andThen_
+must-next true k q y p = (λ e. inr (refl, e), ⊎-elim (λ h. absurd (true≢false (h .0))) (λ h. h .1))
+must-next false k q y p = (λ e. inl (refl, sym (same-place e)), ⊎-elim (λ h. rw (h .1)) (λ h. absurd (false≢true (h .0))))
+
+-- three checks of one number refuse at the place of the first whose test fails
+pub three-given : {a b c : Bool} {A A′ B B′ C′ : Type 0} (k x y z p : ℕ)
+    → ((a ≡ true) ↔ A) → ((a ≡ false) ↔ A′) → ((b ≡ true) ↔ B) → ((b ≡ false) ↔ B′) → ((c ≡ false) ↔ C′)
+    → (must a k x andThen must b k y andThen must c k z ≡ refused k p)
+    ↔ ((A′ × (p ≡ x)) ⊎ (A × B′ × (p ≡ y)) ⊎ (A × B × C′ × (p ≡ z)))
+three-given {a} {b} {c} k x y z p tA fA tB fB fC =
+    let u = must-next a k x (must b k y andThen must c k z) p in
+    let v = must-next b k y (must c k z) p in
+    let w = must-given c k z p in (
+      λ e. ⊎-elim
+          (λ h. inl (fA .0 (h .0), h .1))
+          (λ h. ⊎-elim
+          (λ l. inr (inl (tA .0 (h .0), fB .0 (l .0), l .1)))
+          (λ l. let m = w .0 (l .1) in inr (inr (tA .0 (h .0), tB .0 (l .0), fC .0 (m .0), m .1)))
+          (v .0 (h .1)))
+          (u .0 e),
+      ⊎-elim
+          (λ h. u .1 (inl (fA .1 (h .0), h .1)))
+          (⊎-elim
+          (λ h. u .1 (inr (tA .1 (h .0), v .1 (inl (fB .1 (h .1), h .2)))))
+          (λ h. u .1 (inr (tA .1 (h .0), v .1 (inr (tB .1 (h .1), w .1 (fC .1 (h .2), h .3))))))),
+    )
+
 -- where only the first of two checks has number k, and where only the second has it
 module _ (x y : Check) (k p : ℕ) where
   pub and-first : Only (λ r. r .number ≢ k) y → (x andThen y ≡ refused k p) ↔ (x ≡ refused k p)
   and-first none =
       (λ e. ⊎-elim (λ b. b) (λ z. absurd (none _ (z .1) refl)) (and-bad x y _ .0 e), λ b. and-stop y b)
 
+  -- also where the first has it at other places
+  pub and-past : (x ≡ refused k p → ⊥) → (x andThen y ≡ refused k p) ↔ ((x ≡ Good) × (y ≡ refused k p))
+  and-past none = (λ e. ⊎-elim (λ b. absurd (none b)) (λ z. z) (and-bad x y _ .0 e), λ z. and-next (z .0) ∙ z .1)
+
   pub and-second : Only (λ r. r .number ≢ k) x → (x andThen y ≡ refused k p) ↔ ((x ≡ Good) × (y ≡ refused k p))
-  and-second none =
-      (λ e. ⊎-elim (λ b. absurd (none _ b refl)) (λ z. z) (and-bad x y _ .0 e), λ z. and-next (z .0) ∙ z .1)
+  and-second none = and-past (λ b. none _ b refl)
 
 -- p is the lowest of the indices below n that are not right
 pub record LowestWrong (right : ℕ → Bool) (n p : ℕ) : Type 0 where

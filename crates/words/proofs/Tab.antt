@@ -7,8 +7,9 @@ use native.Mathlib.Nat.{eq-or-lt-of-le, le-of-suc-le-suc, not-suc-le-zero, add-s
 use native.Mathlib.Numerals.{add-one}
 use native.Mathlib.Omega.{arith}
 use lib.Dec.{ltb}
-use lib.ListN.{length, getD, set, drop, length-append, length-drop, List·getD-append}
-use lib.Seq.{drop-cons, drop-drop, set-at, getD-at, getD-drop, getD-append-add, ext-getD}
+use lib.ListN.{length, getD, set, take, drop, replicate, length-append, length-drop, length-replicate, getD-replicate, List·getD-append}
+use lib.Seq.{take-at, drop-at, drop-cons, drop-drop, set-at, getD-at, getD-drop, getD-append-add, ext-getD}
+use borrow.Author.Fill.{fill-more}
 use borrow.Author.Tests.{ltb-true, ltb-false}
 use borrow.Table.Steps.{cases}
 use Rattle.words.specs.Tab.{tab, over}
@@ -55,6 +56,18 @@ module _ (w l : List ℕ) where
   unfolding over
   length-over h = rw (length-append, length-drop) (omega arith)
 
+  pub over-fits : length w ≤ length (over w l)
+  unfolding over
+  over-fits = rw length-append (omega arith)
+
+  pub take-over : (n : ℕ) → length w ≡ n → take n (over w l) ≡ w
+  unfolding over
+  take-over n e = take-at w _ n e
+
+  pub drop-over : (n : ℕ) → length w ≡ n → drop n (over w l) ≡ drop n l
+  unfolding over
+  drop-over n e = drop-at w _ n e ∙ rw e
+
   pub getD-over : (i : ℕ) → i < length w → getD (over w l) i 0 ≡ getD w i 0
   unfolding over
   getD-over i h = List·getD-append w (drop (length w) l) 0 i h
@@ -88,3 +101,20 @@ module _ (f : ℕ → ℕ) (n : ℕ) (l : List ℕ) where
   over-more h =
       rw (length-tab f n, length-tab f (n + 1), tab-more f n, drop-cons l n 0, append-assoc, add-one)
       (set-at (tab f n) (getD l n 0) (drop (suc n) l) (f n) n (length-tab f n))
+
+-- ---- n times v, then the rest of l as it was: what a loop that fills has written after n turns
+
+module _ (n v : ℕ) (l : List ℕ) where
+  -- one more turn
+  pub fill-next : n < length l → set (over (replicate n v) l) n v ≡ over (replicate (n + 1) v) l
+  unfolding over
+  fill-next h = rw (length-replicate n v, length-replicate (n + 1) v) (fill-more n v l h)
+
+  pub length-fill : n ≤ length l → length (over (replicate n v) l) ≡ length l
+  length-fill h = length-over (replicate n v) l (rw length-replicate h)
+
+  pub getD-fill : (i : ℕ) → i < n → getD (over (replicate n v) l) i 0 ≡ v
+  getD-fill i h = getD-over (replicate n v) l i (rw length-replicate h) ∙ getD-replicate n i v 0 h
+
+  pub drop-fill : drop n (over (replicate n v) l) ≡ drop n l
+  drop-fill = drop-over (replicate n v) l n (length-replicate n v)

@@ -6,7 +6,8 @@ use borrow.Author.Needs.{needs}
 use Rattle.key.specs.Keys.{EMPTY}
 use Rattle.words.specs.declared.Check.the-variants.{Good}
 use Rattle.meaning.specs.Final.{FinalTable}
-use Rattle.lists.specs.Lists.{net, cellsOf}
+use Rattle.numbers.specs.Numbers.{cellsOf}
+use Rattle.lists.specs.Lists.{net}
 use Rattle.start.specs.Calls.{Started}
 use Rattle.start.proofs.Filling.{filled}
 use Rattle.closure.specs.Runs.{runCheck}

@@ -6,8 +6,8 @@ use Rattle.lists.specs.Lists.{listsCheck}
 use Rattle.lists.proofs.check.Statement.{statement}
 use Rattle.lists.proofs.check.Tie as tie
 
-lengths-requires : tie.Need-lengths-requires
-lengths-requires c κs = search needs
+whole-records-requires : tie.Need-whole-records-requires
+whole-records-requires c κs = search needs
 
 limits-requires : tie.Need-limits-requires
 limits-requires c κs = search needs
@@ -42,7 +42,7 @@ pub check-spec : {M : Type 1} → statement M
 check-spec =
     tie.close
     (tie.spec
-    lengths-requires
+    whole-records-requires
     limits-requires
     and-then-requires
     enum-told

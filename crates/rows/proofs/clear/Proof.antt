@@ -1,9 +1,9 @@
 -- `rows::clear` meets its contract: the loop fills from the front. Assumes nothing.
 use Prim.Native.Nat.{_≤_, _<_, _-_}
-use mathlib.Core.Path.{_≡_, refl, _∙_, ap}
+use mathlib.Core.Path.{_≡_, refl, sym, _∙_, ap}
 use native.Mathlib.Omega.{arith}
-use borrow.Author.Fill.{fill-more}
 use lib.ListN.{length, set, length-set}
+use Rattle.words.proofs.Tab.{over-none, fill-next}
 use Rattle.rows.specs.Rounds.{cleared}
 use Rattle.rows.proofs.clear.Statement.{statement}
 use Rattle.rows.proofs.clear.Tie as tie
@@ -15,7 +15,7 @@ abbrev μ-loop : tie.MeasureT-loop
 μ-loop count rows₀ i₀ rows i = count - i
 
 loop-holds : tie.Need-loop-holds Inv-loop μ-loop
-loop-holds c = (refl, omega arith, refl)
+loop-holds c = (sym (over-none _), omega arith, refl)
 
 mul-rows : tie.Need-mul-rows Inv-loop μ-loop
 mul-rows c = omega arith
@@ -33,7 +33,7 @@ loop-again : tie.Need-loop-again Inv-loop μ-loop
 loop-again c =
     let v = c .before .loop .inv in
     let l : c .before .loop .i < length (c .before .before .args .rows .now) = omega arith in
-    (ap (λ l. set l (c .before .loop .i) 0) (v .0) ∙ fill-more _ 0 _ l, omega arith, simp length-set (v .2))
+    (ap (λ l. set l (c .before .loop .i) 0) (v .0) ∙ fill-next _ 0 _ l, omega arith, simp length-set (v .2))
 
 same-length : tie.Need-same-length Inv-loop μ-loop
 same-length c = c .before .loop .inv .2

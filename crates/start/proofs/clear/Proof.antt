@@ -1,30 +1,29 @@
 -- `start::clear` meets its contract. Assumes nothing.
-use mathlib.Core.Path.{refl, _≡_, _∙_}
+use mathlib.Core.Path.{_≡_, sym, _∙_}
 use mathlib.Core.Logic.{⊎-elim}
-use mathlib.Core.List.{_++_}
 use Prim.Native.Nat.{_-_, _≤_, min}
 use native.Mathlib.Omega.{arith}
-use lib.ListN.{length, drop, replicate}
-use borrow.Author.Fill.{fill-more}
+use lib.ListN.{length, replicate}
 use borrow.Author.Needs.{needs}
+use Rattle.words.specs.Tab.{over}
+use Rattle.words.proofs.Tab.{over-none, fill-next, length-fill}
 use Rattle.key.specs.Keys.{EMPTY}
 use Rattle.start.specs.Entering.{cleared}
-use Rattle.start.proofs.Entered.{length-filled}
 use Rattle.start.proofs.clear.Statement.{statement}
 use Rattle.start.proofs.clear.Tie as tie
 
 abbrev Inv-loop : tie.InvT-loop
-Inv-loop table₀ n end c₀ table c = (end ≡ min n (length table₀)) × ((c ≤ end) × (table ≡ replicate c EMPTY ++ drop c table₀))
+Inv-loop table₀ n end c₀ table c = (end ≡ min n (length table₀)) × ((c ≤ end) × (table ≡ over (replicate c EMPTY) table₀))
 
 abbrev μ-loop : tie.MeasureT-loop
 μ-loop table₀ n end c₀ table c = end - c
 
 loop-holds : tie.Need-loop-holds Inv-loop μ-loop
-loop-holds c = (⊎-elim (λ w. omega arith) (λ w. omega arith) (c .if1 .came), (omega arith, refl))
+loop-holds c = (⊎-elim (λ w. omega arith) (λ w. omega arith) (c .if1 .came), (omega arith, sym (over-none _)))
 
 -- the table keeps its length
 long : (c : tie.At-loop Inv-loop μ-loop) → length (c .loop .table) ≡ length (c .before .before .args .table .now)
-long c = rw (c .loop .inv .1 .1) (length-filled (c .loop .c) (c .before .before .args .table .now) (omega arith))
+long c = rw (c .loop .inv .1 .1) (length-fill (c .loop .c) EMPTY (c .before .before .args .table .now) (omega arith))
 
 mul-table : tie.Need-mul-table Inv-loop μ-loop
 mul-table c = omega (arith, long (c .before))
@@ -44,7 +43,7 @@ loop-again c =
       l .inv .0,
       (
         omega arith,
-        rw (l .inv .1 .1) (fill-more (l .c) EMPTY (c .before .before .before .args .table .now) (omega arith)),
+        rw (l .inv .1 .1) (fill-next (l .c) EMPTY (c .before .before .before .args .table .now) (omega arith)),
       ),
     )
 

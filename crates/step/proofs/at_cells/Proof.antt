@@ -46,11 +46,11 @@ returns c = sym (cells-stop _ _ _ _ _ (sym (used (c .before .before .before)) �
 enum-told : tie.Need-enum-told
 enum-told c = search needs
 
-read-requires : tie.Need-read-requires
-read-requires c κs = search needs
+key-at-requires : tie.Need-key-at-requires
+key-at-requires c κs = search needs
 
-read-requires-2 : tie.Need-read-requires-2
-read-requires-2 c κs = search needs
+key-at-requires-2 : tie.Need-key-at-requires-2
+key-at-requires-2 c κs = search needs
 
 candidate-requires : tie.Need-candidate-requires
 candidate-requires c κs = search needs
@@ -72,8 +72,8 @@ returns-2 c =
     c .before .before .take .ensures
     ∙ rw (
       d .candidate .ensures,
-      d .before .read2 .ensures,
-      d .before .before .before .read .ensures,
+      d .before .key-at2 .ensures,
+      d .before .before .before .key-at .ensures,
       u .before .before .cell-at3 .ensures,
       u .before .before .before .cell-at2 .ensures,
       e,
@@ -92,8 +92,8 @@ at-cells-spec =
     same-length
     returns
     enum-told
-    read-requires
-    read-requires-2
+    key-at-requires
+    key-at-requires-2
     candidate-requires
     take-requires
     same-length-2

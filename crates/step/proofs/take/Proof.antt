@@ -10,8 +10,8 @@ use Rattle.step.proofs.Entered.{key-inside, taken-no, taken-high, taken
 use Rattle.step.proofs.take.Statement.{statement}
 use Rattle.step.proofs.take.Tie as tie
 
-read-requires : tie.Need-read-requires
-read-requires c κs = search needs
+key-at-requires : tie.Need-key-at-requires
+key-at-requires c κs = search needs
 
 same-length : tie.Need-same-length
 same-length c = search needs
@@ -52,7 +52,7 @@ pub take-spec : {M : Type 1} → statement M
 take-spec =
     tie.close
     (tie.spec
-    read-requires
+    key-at-requires
     same-length
     returns
     split-requires

@@ -4,8 +4,8 @@ use Rattle.step.specs.Calls.{usableCheck}
 use Rattle.step.proofs.usable_check.Statement.{statement}
 use Rattle.step.proofs.usable_check.Tie as tie
 
-read-requires : tie.Need-read-requires
-read-requires c κs = search needs
+key-at-requires : tie.Need-key-at-requires
+key-at-requires c κs = search needs
 
 usable-requires : tie.Need-usable-requires
 usable-requires c κs = search needs
@@ -13,8 +13,8 @@ usable-requires c κs = search needs
 must-requires : tie.Need-must-requires
 must-requires c κs = search needs
 
-read-requires-2 : tie.Need-read-requires-2
-read-requires-2 c κs = search needs
+key-at-requires-2 : tie.Need-key-at-requires-2
+key-at-requires-2 c κs = search needs
 
 usable-requires-2 : tie.Need-usable-requires-2
 usable-requires-2 c κs = search needs
@@ -22,8 +22,8 @@ usable-requires-2 c κs = search needs
 must-requires-2 : tie.Need-must-requires-2
 must-requires-2 c κs = search needs
 
-read-requires-3 : tie.Need-read-requires-3
-read-requires-3 c κs = search needs
+key-at-requires-3 : tie.Need-key-at-requires-3
+key-at-requires-3 c κs = search needs
 
 usable-requires-3 : tie.Need-usable-requires-3
 usable-requires-3 c κs = search needs
@@ -45,13 +45,13 @@ pub usable-check-spec : {M : Type 1} → statement M
 usable-check-spec =
     tie.close
     (tie.spec
-    read-requires
+    key-at-requires
     usable-requires
     must-requires
-    read-requires-2
+    key-at-requires-2
     usable-requires-2
     must-requires-2
-    read-requires-3
+    key-at-requires-3
     usable-requires-3
     must-requires-3
     and-then-requires

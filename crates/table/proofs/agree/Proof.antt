@@ -13,11 +13,11 @@ abbrev μ-loop : tie.MeasureT-loop
 loop-holds : tie.Need-loop-holds Inv-loop μ-loop
 loop-holds c = search needs
 
-div-word-at : tie.Need-div-word-at Inv-loop μ-loop
-div-word-at c = search needs
+div-key-at : tie.Need-div-key-at Inv-loop μ-loop
+div-key-at c = search needs
 
-word-at-requires : tie.Need-word-at-requires Inv-loop μ-loop
-word-at-requires c κs = search needs
+key-at-requires : tie.Need-key-at-requires Inv-loop μ-loop
+key-at-requires c κs = search needs
 
 rem-is-set : tie.Need-rem-is-set Inv-loop μ-loop
 rem-is-set c = search needs
@@ -25,8 +25,8 @@ rem-is-set c = search needs
 is-set-requires : tie.Need-is-set-requires Inv-loop μ-loop
 is-set-requires c κs = search needs
 
-word-at-requires-2 : tie.Need-word-at-requires-2 Inv-loop μ-loop
-word-at-requires-2 c κs = search needs
+key-at-requires-2 : tie.Need-key-at-requires-2 Inv-loop μ-loop
+key-at-requires-2 c κs = search needs
 
 returns : tie.Need-returns Inv-loop μ-loop
 returns c = search needs
@@ -50,11 +50,11 @@ agree-spec =
     Inv-loop
     μ-loop
     loop-holds
-    div-word-at
-    word-at-requires
+    div-key-at
+    key-at-requires
     rem-is-set
     is-set-requires
-    word-at-requires-2
+    key-at-requires-2
     returns
     add-c
     loop-less

@@ -19,9 +19,9 @@ use Rattle.witness.proofs.walk.Reads as walk
 use Rattle.witness.proofs.walk.Kinds as walk-kinds
 use Rattle.witness.proofs.+expand+walk.Lts-walk as walk-lts
 use Rattle.witness.proofs.before.Reads as before-reads
-use Rattle.witness.proofs.key_at.Reads as key-at-reads
+use Rattle.witness.proofs.key_of.Reads as key-of-reads
 use Rattle.witness.proofs.left_of.Reads as left-of-reads
-use Rattle.witness.proofs.length_at.Reads as length-at-reads
+use Rattle.witness.proofs.length_of.Reads as length-of-reads
 use Rattle.witness.proofs.parts_of.Reads as parts-of-reads
 use Rattle.witness.proofs.past.Reads as past-reads
 use Rattle.witness.proofs.right_of.Reads as right-of-reads
@@ -56,8 +56,8 @@ expand-calls t = (
   right-of-reads.Learnt,
   walk-below t,
   walk.Post,
-  length-at-reads.Asked,
-  length-at-reads.Learnt,
+  length-of-reads.Asked,
+  length-of-reads.Learnt,
   past-reads.Asked,
   past-reads.Learnt,
 )
@@ -66,8 +66,8 @@ abbrev walk-calls : ℕ → walk-lts.Claims
 walk-calls t = (
   before-reads.Asked,
   before-reads.Learnt,
-  key-at-reads.Asked,
-  key-at-reads.Learnt,
+  key-of-reads.Asked,
+  key-of-reads.Learnt,
   parts-of-reads.Asked,
   parts-of-reads.Learnt,
   write-edge-reads.Asked,
@@ -82,8 +82,8 @@ expand-left-of-requires t c κs = search needs
 expand-right-of-requires : (t : ℕ) → expand-lts.Need-right-of-requires (expand-calls t) (expand-at t) expand.Post
 expand-right-of-requires t c κs = search needs
 
-expand-length-at-requires : (t : ℕ) → expand-lts.Need-length-at-requires (expand-calls t) (expand-at t) expand.Post
-expand-length-at-requires t c κs = search needs
+expand-length-of-requires : (t : ℕ) → expand-lts.Need-length-of-requires (expand-calls t) (expand-at t) expand.Post
+expand-length-of-requires t c κs = search needs
 
 expand-past-requires : (t : ℕ) → expand-lts.Need-past-requires (expand-calls t) (expand-at t) expand.Post
 expand-past-requires t c κs = search needs
@@ -130,10 +130,10 @@ expand-add-result t c =
     let left-of = c .before .before .before .before .before .before .before .before .before .before .before .left-of in
     let right-of = c .before .before .before .before .before .before .before .before .before .before .right-of in
     let past = c .before .before .before .before .past in
-    let length-at = c .before .before .before .before .before .length-at in
+    let length-of = c .before .before .before .before .before .length-of in
     let walk = c .before .before .before .before .before .before .before .before .walk in
     let walk2 = c .before .before .walk2 in
-    omega (arith, both-fit (start .pre .1) (left-of .ensures) (right-of .ensures) (past .ensures ∙ ap (λ n. start .args .from - n) (length-at .ensures)) (walk .ensures) (walk2 .ensures), start .good .1 .1 .1 .1 .1 .1 .1 .0)
+    omega (arith, both-fit (start .pre .1) (left-of .ensures) (right-of .ensures) (past .ensures ∙ ap (λ n. start .args .from - n) (length-of .ensures)) (walk .ensures) (walk2 .ensures), start .good .1 .1 .1 .1 .1 .1 .1 .0)
 
 expand-same-length : (t : ℕ) → expand-lts.Need-same-length (expand-calls t) (expand-at t) expand.Post
 expand-same-length t c =
@@ -147,16 +147,16 @@ expand-returns t c =
     let left-of = c .before .before .before .before .before .before .before .before .before .before .before .left-of in
     let right-of = c .before .before .before .before .before .before .before .before .before .before .right-of in
     let past = c .before .before .before .before .past in
-    let length-at = c .before .before .before .before .before .length-at in
+    let length-of = c .before .before .before .before .before .length-of in
     let walk = c .before .before .before .before .before .before .before .before .walk in
     let walk2 = c .before .before .walk2 in
-    walk-both (start .pre .1) (left-of .ensures) (right-of .ensures) (past .ensures ∙ ap (λ n. start .args .from - n) (length-at .ensures)) (walk .ensures) (walk2 .ensures)
+    walk-both (start .pre .1) (left-of .ensures) (right-of .ensures) (past .ensures ∙ ap (λ n. start .args .from - n) (length-of .ensures)) (walk .ensures) (walk2 .ensures)
 
 walk-before-requires : (t : ℕ) → walk-lts.Need-before-requires (walk-calls t) (walk-at t) walk.Post
 walk-before-requires t c κs = search needs
 
-walk-key-at-requires : (t : ℕ) → walk-lts.Need-key-at-requires (walk-calls t) (walk-at t) walk.Post
-walk-key-at-requires t c κs = search needs
+walk-key-of-requires : (t : ℕ) → walk-lts.Need-key-of-requires (walk-calls t) (walk-at t) walk.Post
+walk-key-of-requires t c κs = search needs
 
 walk-parts-of-requires : (t : ℕ) → walk-lts.Need-parts-of-requires (walk-calls t) (walk-at t) walk.Post
 walk-parts-of-requires t c κs = search needs
@@ -178,17 +178,17 @@ walk-write-edge-requires : (t : ℕ) → walk-lts.Need-write-edge-requires (walk
 walk-write-edge-requires t c κs =
     let start = c .before .before .before .before .before .before .before .before .before .before .before .before .before in
     let parts-of = c .before .before .before .parts-of in
-    let key-at = c .before .before .before .before .key-at in
+    let key-of = c .before .before .before .before .key-of in
     let if3 = c .before .if3 in
-    edge-ready (start .pre .1) (parts-of .ensures ∙ ap partsOf (key-at .ensures)) (if3 .taken) (omega arith)
+    edge-ready (start .pre .1) (parts-of .ensures ∙ ap partsOf (key-of .ensures)) (if3 .taken) (omega arith)
 
 walk-expand-requires : (t : ℕ) → walk-lts.Need-expand-requires (walk-calls t) (walk-at t) walk.Post
 walk-expand-requires t c κs =
     let parts-of = c .before .before .before .parts-of in
-    let key-at = c .before .before .before .before .key-at in
+    let key-of = c .before .before .before .before .key-of in
     let start = c .before .before .before .before .before .before .before .before .before .before .before .before .before in
     let if3 = c .before .if3 in
-    let is = parts-of .ensures ∙ ap partsOf (key-at .ensures) in
+    let is = parts-of .ensures ∙ ap partsOf (key-of .ensures) in
     (omega (arith, ap (λ (k : Parts). k .height) is, start .pre .0), pair-ready (start .pre .1) is (if3 .left))
 
 walk-same-length : (t : ℕ) → walk-lts.Need-same-length (walk-calls t) (walk-at t) walk.Post
@@ -198,13 +198,13 @@ walk-returns-3 : (t : ℕ) → walk-lts.Need-returns-3 (walk-calls t) (walk-at t
 walk-returns-3 t c =
     let start = c .before .before .before .before .before .before .before .before .before .before .before .before .before .before .before .before in
     let parts-of = c .before .before .before .before .before .before .parts-of in
-    let key-at = c .before .before .before .before .before .before .before .key-at in
+    let key-of = c .before .before .before .before .before .before .before .key-of in
     let if3 = c .before .before .before .before .if3 in
     let before2 = c .before .before .before .before .before .before .before .before .before .before .before2 in
     let if1 = c .before .before .before .before .before .before .before .before .before .if1 in
     let if2 = c .before .before .before .before .before .before .before .before .if2 in
     let write-edge = c .before .before .write-edge in
-    walk-leaf (start .pre .1) (parts-of .ensures ∙ ap partsOf (key-at .ensures)) (if3 .taken) (leb-false _ _ (sym (before2 .ensures) ∙ if1 .left)) (omega (arith, if2 .left)) (write-edge .ensures)
+    walk-leaf (start .pre .1) (parts-of .ensures ∙ ap partsOf (key-of .ensures)) (if3 .taken) (leb-false _ _ (sym (before2 .ensures) ∙ if1 .left)) (omega (arith, if2 .left)) (write-edge .ensures)
 
 walk-same-length-2 : (t : ℕ) → walk-lts.Need-same-length-2 (walk-calls t) (walk-at t) walk.Post
 walk-same-length-2 t c = c .before .before .expand .kept .1 .1 .1 .1 .1 .1 .1 .0
@@ -221,7 +221,7 @@ pub +expand+walk-spec : {M : Type 1} → statement M
     (expand-left-of-requires t)
     (expand-right-of-requires t)
     (expand-walk-requires t)
-    (expand-length-at-requires t)
+    (expand-length-of-requires t)
     (expand-past-requires t)
     (expand-mul-walk t)
     (expand-sub-walk t)
@@ -235,7 +235,7 @@ pub +expand+walk-spec : {M : Type 1} → statement M
     (walk-before-requires t)
     (walk-returns t)
     (walk-returns-2 t)
-    (walk-key-at-requires t)
+    (walk-key-of-requires t)
     (walk-parts-of-requires t)
     (walk-write-edge-requires t)
     (walk-expand-requires t)

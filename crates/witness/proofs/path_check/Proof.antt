@@ -5,8 +5,8 @@ use borrow.Author.Needs.{needs}
 use Rattle.witness.proofs.path_check.Statement.{statement}
 use Rattle.witness.proofs.path_check.Tie as tie
 
-key-at-requires : tie.Need-key-at-requires
-key-at-requires c κs = search needs
+key-of-requires : tie.Need-key-of-requires
+key-of-requires c κs = search needs
 
 cell-requires : tie.Need-cell-requires
 cell-requires c κs = search needs
@@ -14,8 +14,8 @@ cell-requires c κs = search needs
 must-requires : tie.Need-must-requires
 must-requires c κs = search needs
 
-length-at-requires : tie.Need-length-at-requires
-length-at-requires c κs = search needs
+length-of-requires : tie.Need-length-of-requires
+length-of-requires c κs = search needs
 
 must-requires-2 : tie.Need-must-requires-2
 must-requires-2 c κs = search needs
@@ -29,19 +29,19 @@ returns c =
     let and-then = c .and-then in
     let must = c .before .before .before .must in
     let must2 = c .before .must2 in
-    let key-at = c .before .before .before .before .before .key-at in
-    let length-at = c .before .before .length-at in
+    let key-of = c .before .before .before .before .before .key-of in
+    let length-of = c .before .before .length-of in
     let cell = c .before .before .before .before .cell in
-    rw (and-then .ensures, must .ensures, must2 .ensures, key-at .ensures, length-at .ensures, cell .ensures)
+    rw (and-then .ensures, must .ensures, must2 .ensures, key-of .ensures, length-of .ensures, cell .ensures)
 
 pub path-check-spec : {M : Type 1} → statement M
 path-check-spec =
     tie.close
     (tie.spec
-    key-at-requires
+    key-of-requires
     cell-requires
     must-requires
-    length-at-requires
+    length-of-requires
     must-requires-2
     and-then-requires
     returns)

@@ -29,8 +29,8 @@ asked-spot-requires c κs =
     let enum-told = c .enum-told in
     window-asked _ _ _ _ _ _ _ _ (sym (window-check .ensures) ∙ enum-told .given .1)
 
-length-at-requires : tie.Need-length-at-requires
-length-at-requires c κs = search needs
+length-of-requires : tie.Need-length-of-requires
+length-of-requires c κs = search needs
 
 cast-room : tie.Need-cast-room
 cast-room c = search needs
@@ -46,11 +46,11 @@ unfolding witnessCheck
 returns-2 c =
     let window-check = c .before .before .before .before .before .before .before .before .window-check in
     let enum-told = c .before .before .before .before .before .before .enum-told in
-    let length-at = c .before .before .before .before .length-at in
+    let length-of = c .before .before .before .before .length-of in
     let asked-spot = c .before .before .before .before .before .asked-spot in
     let room = c .before .before .before .room in
     let roomy = c .before .roomy in
-    Answered.refused (and-next (sym (window-check .ensures) ∙ enum-told .given .1) ∙ sym (rw (length-at .ensures, asked-spot .ensures) at (room .ensures)) ∙ roomy .given .1) refl
+    Answered.refused (and-next (sym (window-check .ensures) ∙ enum-told .given .1) ∙ sym (rw (length-of .ensures, asked-spot .ensures) at (room .ensures)) ∙ roomy .given .1) refl
 
 enum-told-2 : tie.Need-enum-told-2
 enum-told-2 c = search needs
@@ -70,11 +70,11 @@ returns-3 c =
     let asked-spot = c .before .before .before .before .before .before .before .before .asked-spot in
     let window-check = c .before .before .before .before .before .before .before .before .before .before .before .window-check in
     let enum-told = c .before .before .before .before .before .before .before .before .before .enum-told in
-    let length-at = c .before .before .before .before .before .before .before .length-at in
+    let length-of = c .before .before .before .before .before .before .before .length-of in
     let room = c .before .before .before .before .before .before .room in
     let enum-told2 = c .before .before .before .before .enum-told2 in
     let walk = c .before .before .walk in
-    witness-wrote _ _ _ _ _ _ _ _ (sym (window-check .ensures) ∙ enum-told .given .1) (asked-spot .ensures) (sym (rw (length-at .ensures, asked-spot .ensures) at (room .ensures)) ∙ enum-told2 .given .1) (walk .ensures)
+    witness-wrote _ _ _ _ _ _ _ _ (sym (window-check .ensures) ∙ enum-told .given .1) (asked-spot .ensures) (sym (rw (length-of .ensures, asked-spot .ensures) at (room .ensures)) ∙ enum-told2 .given .1) (walk .ensures)
 
 pub witness-spec : {M : Type 1} → statement M
 witness-spec =
@@ -85,7 +85,7 @@ witness-spec =
     returns
     enum-told
     asked-spot-requires
-    length-at-requires
+    length-of-requires
     cast-room
     room-requires
     enum-known-roomy

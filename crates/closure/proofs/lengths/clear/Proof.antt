@@ -1,22 +1,21 @@
 -- `closure::lengths::clear` meets its contract. Assumes nothing.
-use mathlib.Core.Path.{_≡_, refl, _∙_}
-use mathlib.Core.List.{_++_}
+use mathlib.Core.Path.{_≡_, refl, sym, _∙_}
 use Prim.Native.Nat.{_-_, _≤_}
 use native.Mathlib.Omega.{arith}
-use lib.ListN.{length, drop, replicate, length-set}
-use borrow.Author.Fill.{fill-none, fill-more}
-use Rattle.closure.proofs.Fills.{over-fill}
+use lib.ListN.{length, replicate, length-set}
+use Rattle.words.specs.Tab.{over}
+use Rattle.words.proofs.Tab.{over-none, fill-next}
 use Rattle.closure.proofs.lengths.clear.Statement.{statement}
 use Rattle.closure.proofs.lengths.clear.Tie as tie
 
 abbrev Inv-loop : tie.InvT-loop
-Inv-loop lengths₀ n c₀ lengths c = (lengths ≡ replicate c 0 ++ drop c lengths₀) × (c ≤ n) × (length lengths ≡ length lengths₀)
+Inv-loop lengths₀ n c₀ lengths c = (lengths ≡ over (replicate c 0) lengths₀) × (c ≤ n) × (length lengths ≡ length lengths₀)
 
 abbrev μ-loop : tie.MeasureT-loop
 μ-loop lengths₀ n c₀ lengths c = n - c
 
 loop-holds : tie.Need-loop-holds Inv-loop μ-loop
-loop-holds c = (fill-none (c .args .lengths .now) 0, omega arith, refl)
+loop-holds c = (sym (over-none (c .args .lengths .now)), omega arith, refl)
 
 mul-lengths : tie.Need-mul-lengths Inv-loop μ-loop
 mul-lengths c = omega arith
@@ -33,7 +32,7 @@ loop-less c = omega arith
 loop-again : tie.Need-loop-again Inv-loop μ-loop
 loop-again c =
     let l = c .before .loop in (
-      rw (l .inv .0) (fill-more (l .c) 0 (c .before .before .args .lengths .now) (omega arith)),
+      rw (l .inv .0) (fill-next (l .c) 0 (c .before .before .args .lengths .now) (omega arith)),
       omega arith,
       length-set (l .lengths) (l .c) 0 ∙ l .inv .2,
     )
@@ -43,10 +42,8 @@ same-length c = c .before .loop .inv .2
 
 returns : tie.Need-returns Inv-loop μ-loop
 returns c =
-    let l = c .before .loop in
-    let a = c .before .before .args in
-    let e : l .c ≡ a .n = omega arith in
-    rw e at (l .inv .0) ∙ over-fill (a .n) 0 (a .lengths .now)
+    let e : c .before .loop .c ≡ c .before .before .args .n = omega arith in
+    rw e at (c .before .loop .inv .0)
 
 pub clear-spec : {M : Type 1} → statement M
 clear-spec =

@@ -13,21 +13,24 @@ wanted-requires c κs = search needs
 returns : tie.Need-returns
 returns c e = absurd (let q : _≡_ {A = ℕ} 0 1 = cc in omega arith)
 
-mul-if2 : tie.Need-mul-if2
-mul-if2 c = search needs
+mul-held : tie.Need-mul-held
+mul-held c = search needs
 
-shared-slice-read-if2 : tie.Need-shared-slice-read-if2
-shared-slice-read-if2 c = search needs
+shared-slice-read-held : tie.Need-shared-slice-read-held
+shared-slice-read-held c = search needs
+
+split-requires : tie.Need-split-requires
+split-requires c κs = search needs
 
 returns-2 : tie.Need-returns-2
 returns-2 c e = absurd (let q : _≡_ {A = ℕ} 0 1 = cc in omega arith)
 
 returns-3 : tie.Need-returns-3
 returns-3 c e =
-    let b = c .before .before in
+    let b = c .before .before .before .before in
     let w = rw (not-false (b .before .wanted .result) (b .if1 .left)) at (b .before .wanted .ensures) in
-    (record { filled = w .0; high = c .if2 .left }, ltb-true 0 (b .before .before .before .before .args .levels) e)
+    (record { filled = w .0; high = rw (c .before .before .split .ensures) at (c .if2 .left) }, ltb-true 0 (b .before .before .before .before .args .levels) e)
 
 pub deeper-spec : {M : Type 1} → statement M
 deeper-spec =
-    tie.close (tie.spec wanted-requires returns mul-if2 shared-slice-read-if2 returns-2 returns-3)
+    tie.close (tie.spec wanted-requires returns mul-held shared-slice-read-held split-requires returns-2 returns-3)

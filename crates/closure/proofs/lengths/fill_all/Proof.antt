@@ -4,9 +4,10 @@ use native.Mathlib.Omega.{arith}
 use lib.ListN.{length, drop, replicate}
 use borrow.Author.Needs.{needs}
 use Rattle.words.specs.Tab.{over}
+use Rattle.words.proofs.Tab.{drop-fill}
 use Rattle.closure.specs.Passes.{count}
 use Rattle.closure.specs.Fills.{Known, zeros}
-use Rattle.closure.proofs.Fills.{known-none, over-kept}
+use Rattle.closure.proofs.Fills.{known-none}
 use Rattle.closure.proofs.lengths.fill_all.Statement.{statement}
 use Rattle.closure.proofs.lengths.fill_all.Tie as tie
 
@@ -63,7 +64,7 @@ returns c =
     record {
       known = b .sweep .ensures .filled .known;
       idle = b .sweep .ensures .idle (c .if1 .left);
-      kept = b .sweep .ensures .filled .kept ∙ (l .loop .inv .1 ∙ rw (cleared k) (over-kept (count (a .z)) 0 (a .lengths .now)));
+      kept = b .sweep .ensures .filled .kept ∙ (l .loop .inv .1 ∙ rw (cleared k) (drop-fill (count (a .z)) 0 (a .lengths .now)));
     }
 
 pub fill-all-spec : {M : Type 1} → statement M

@@ -25,17 +25,17 @@ is-wanted : (c : tie.Else1) →
 is-wanted c = rw (not-false (c .before .wanted .result) (c .if1 .left)) at (c .before .wanted .ensures)
 
 -- of greater height than 1: where its sides' lengths are
-pair-cell : (c : tie.Else2) → let a = c .before .before .before .before .before .before .before .before .args in PairCell (a .table .now) (a .c)
-pair-cell c = record { filled = is-wanted (c .before .before) .0; high = c .if2 .left }
+pair-cell : (c : tie.Else2) → let a = c .before .before .before .before .before .before .before .before .before .before .args in PairCell (a .table .now) (a .c)
+pair-cell c = record { filled = is-wanted (c .before .before .before .before) .0; high = rw (c .before .before .split .ensures) at (c .if2 .left) }
 
-left-in : (c : tie.After-sides-of) → c .sides-of .result .left < length (c .before .before .before .before .before .before .before .before .before .args .lengths .now)
+left-in : (c : tie.After-sides-of) → c .sides-of .result .left < length (c .before .before .before .before .before .before .before .before .before .before .before .args .lengths .now)
 left-in c =
-    let s = c .before .before .before .before .before .before .before .before .before in
+    let s = c .before .before .before .before .before .before .before .before .before .before .before in
     omega (arith, c .sides-of .ensures .0, s .pre .0 .left (s .args .c) (s .pre .1 .1) (pair-cell (c .before)), s .pre .1 .0 .long)
 
-right-in : (c : tie.After-sides-of) → c .sides-of .result .right < length (c .before .before .before .before .before .before .before .before .before .args .lengths .now)
+right-in : (c : tie.After-sides-of) → c .sides-of .result .right < length (c .before .before .before .before .before .before .before .before .before .before .before .args .lengths .now)
 right-in c =
-    let s = c .before .before .before .before .before .before .before .before .before in
+    let s = c .before .before .before .before .before .before .before .before .before .before .before in
     omega (arith, c .sides-of .ensures .1, s .pre .0 .right (s .args .c) (s .pre .1 .1) (pair-cell (c .before)), s .pre .1 .0 .long)
 
 wanted-requires : tie.Need-wanted-requires
@@ -49,11 +49,14 @@ returns c =
     let s = c .before .before .before .before .before .before in
     filled-idle _ _ _ _ (s .args .c) (s .pre .1 .0) (idle-unwanted _ _ _ _ _ (rw (not-true (c .before .wanted .result) (c .if1 .taken)) at (c .before .wanted .ensures)))
 
-mul-if2 : tie.Need-mul-if2
-mul-if2 c = search needs
+mul-held : tie.Need-mul-held
+mul-held c = search needs
 
-shared-slice-read-if2 : tie.Need-shared-slice-read-if2
-shared-slice-read-if2 c = search needs
+shared-slice-read-held : tie.Need-shared-slice-read-held
+shared-slice-read-held c = search needs
+
+split-requires : tie.Need-split-requires
+split-requires c κs = search needs
 
 mul-lengths : tie.Need-mul-lengths
 mul-lengths c = search needs
@@ -66,13 +69,13 @@ same-length-2 c = search needs
 
 returns-2 : tie.Need-returns-2
 returns-2 c =
-    let b = c .before .before in
+    let b = c .before .before .before .before in
     let s = b .before .before .before .before .before .before in
-    filled-one _ _ _ _ (s .args .c) (s .pre .1 .0) (s .pre .1 .1) (is-wanted b .1) (is-wanted b .0) (c .if2 .taken) _
+    filled-one _ _ _ _ (s .args .c) (s .pre .1 .0) (s .pre .1 .1) (is-wanted b .1) (is-wanted b .0) (rw (c .before .before .split .ensures) at (c .if2 .taken)) _
 
 sides-of-requires : tie.Need-sides-of-requires
 sides-of-requires c κs =
-    let s = c .before .before .before .before .before .before .before .before in
+    let s = c .before .before .before .before .before .before .before .before .before .before in
     (table-in s, s .pre .0 .nodes)
 
 mul-left : tie.Need-mul-left
@@ -87,7 +90,7 @@ same-length-3 c = search needs
 returns-3 : tie.Need-returns-3
 returns-3 c =
     let b = c .before .before in
-    let s = b .before .before .before .before .before .before .before .before .before in
+    let s = b .before .before .before .before .before .before .before .before .before .before .before in
     filled-idle _ _ _ _ (s .args .c) (s .pre .1 .0) (waits (pair-cell (b .before)) (inl (rw (b .sides-of .ensures .0) at (c .if3 .taken))))
 
 mul-right : tie.Need-mul-right
@@ -102,7 +105,7 @@ same-length-4 c = search needs
 returns-4 : tie.Need-returns-4
 returns-4 c =
     let b = c .before .before .before .before in
-    let s = b .before .before .before .before .before .before .before .before .before in
+    let s = b .before .before .before .before .before .before .before .before .before .before .before in
     filled-idle _ _ _ _ (s .args .c) (s .pre .1 .0) (waits (pair-cell (b .before)) (inr (rw (b .sides-of .ensures .1) at (c .if4 .taken))))
 
 held-sum-requires : tie.Need-held-sum-requires
@@ -120,8 +123,8 @@ same-length-5 c = search needs
 returns-5 : tie.Need-returns-5
 returns-5 c =
     let b = c .before .before .before .before .before in
-    let s = b .before .before .before .before .before .before .before .before .before in
-    filled-pair _ _ _ _ (s .args .c) _ _ _ (s .pre .1 .0) (s .pre .1 .1) (is-wanted (b .before .before .before) .1) (pair-cell (b .before))
+    let s = b .before .before .before .before .before .before .before .before .before .before .before in
+    filled-pair _ _ _ _ (s .args .c) _ _ _ (s .pre .1 .0) (s .pre .1 .1) (is-wanted (b .before .before .before .before .before) .1) (pair-cell (b .before))
     (b .sides-of .ensures .0) (b .sides-of .ensures .1) (c .before .before .before .if3 .left) (c .before .if4 .left) (c .held-sum .ensures) _
 
 pub take-spec : {M : Type 1} → statement M
@@ -131,8 +134,9 @@ take-spec =
     wanted-requires
     same-length
     returns
-    mul-if2
-    shared-slice-read-if2
+    mul-held
+    shared-slice-read-held
+    split-requires
     mul-lengths
     slice-write-lengths
     same-length-2

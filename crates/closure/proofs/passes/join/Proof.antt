@@ -49,11 +49,16 @@ slice-read-if2 c = search needs
 returns-2 : tie.Need-returns-2
 returns-2 c = (rw (offered (c .before .before)) (c .if2 .taken), refl)
 
+split-requires : tie.Need-split-requires
+split-requires c κs = search needs
+
 add-result : tie.Need-add-result
 add-result c = search needs
 
 returns-3 : tie.Need-returns-3
-returns-3 c = rw (offered (c .before .before .before), sweep-high (c .before .before .before .before .before .before .before .args .to)) (c .before .if2 .left, c .if3 .taken, refl, refl)
+returns-3 c =
+    rw (offered (c .before .before .before .before .before), sweep-high (c .before .before .before .before .before .before .before .before .before .args .to))
+    (c .before .before .before .if2 .left, rw (c .before .before .split .ensures) at (c .if3 .taken), refl, refl)
 
 mul-table : tie.Need-mul-table
 mul-table c = search needs
@@ -65,7 +70,7 @@ same-length : tie.Need-same-length
 same-length c = search needs
 
 returns-4 : tie.Need-returns-4
-returns-4 c = rw (offered (c .before .before .before)) (c .before .if2 .left, c .if3 .left, refl)
+returns-4 c = rw (offered (c .before .before .before .before .before)) (c .before .before .before .if2 .left, rw (c .before .before .split .ensures) at (c .if3 .left), refl)
 
 pub join-spec : {M : Type 1} → statement M
 join-spec =
@@ -78,6 +83,7 @@ join-spec =
     mul-if2
     slice-read-if2
     returns-2
+    split-requires
     add-result
     returns-3
     mul-table

@@ -1,5 +1,5 @@
 -- `nevelknop::checks::records_check` meets its contract. Assumes nothing.
-use Rattle.nevelknop.specs.Calls.{recordsCheck}
+use Rattle.nevelknop.specs.Calls.{bytesCheck}
 use borrow.Author.Needs.{needs}
 use Rattle.nevelknop.proofs.checks.records_check.Statement.{statement}
 use Rattle.nevelknop.proofs.checks.records_check.Tie as tie
@@ -14,7 +14,7 @@ and-then-requires : tie.Need-and-then-requires
 and-then-requires c κs = search needs
 
 returns : tie.Need-returns
-unfolding recordsCheck
+unfolding bytesCheck
 returns c = rw (c .and-then .ensures, c .before .before .must .ensures, c .before .must2 .ensures)
 
 pub records-check-spec : {M : Type 1} → statement M

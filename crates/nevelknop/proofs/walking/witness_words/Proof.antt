@@ -6,7 +6,7 @@ use lib.ListN.{length}
 use Rattle.words.specs.declared.Check.the-variants.{Good}
 use Rattle.words.proofs.Refusals.{and-good}
 use Rattle.witness.specs.Answers.{windowCheck, witnessCheck}
-use Rattle.witness.proofs.Accepts.{room-good}
+use Rattle.numbers.proofs.Right.{room-good}
 use Rattle.witness.proofs.Writes.{window-asked, window-path}
 use Rattle.nevelknop.specs.Calls.{WitnessBytes}
 use Rattle.nevelknop.proofs.Places.{low-witness}
@@ -44,8 +44,8 @@ window-good c = and-good _ _ .0 (good c) .0
 length-of-requires : tie.Need-length-of-requires
 length-of-requires c κs = window-asked _ _ _ _ _ _ _ _ (window-good c)
 
-cast-write-path : tie.Need-cast-write-path
-cast-write-path c = search needs
+cast-many : tie.Need-cast-many
+cast-many c = search needs
 
 write-path-requires : tie.Need-write-path-requires
 unfolding witnessCheck
@@ -53,9 +53,6 @@ write-path-requires c κs =
     let e = c .before .before in
     let l = c .before .length-of .ensures in
     (window-good e, (l, omega (arith, l, room-good _ _ _ .0 (and-good _ _ .0 (good e) .1))))
-
-cast-result : tie.Need-cast-result
-cast-result c = search needs
 
 same-length : tie.Need-same-length
 same-length c = search needs
@@ -76,8 +73,7 @@ witness-words-spec =
     returns
     enum-told
     length-of-requires
-    cast-write-path
+    cast-many
     write-path-requires
-    cast-result
     same-length
     returns-2)

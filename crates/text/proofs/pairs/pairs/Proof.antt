@@ -4,9 +4,9 @@ use native.Mathlib.Omega.{arith}
 use mathlib.Core.Logic.{⊎-elim}
 use mathlib.Core.Path.{_≡_, sym, ap, _∙_}
 use borrow.Author.Needs.{needs}
+use Rattle.meaning.proofs.Rows.{row-back}
 use Rattle.lists.specs.Lists.{net}
 use Rattle.text.specs.Pen.{LinesPenned}
-use Rattle.text.proofs.Counted.{nodes-in}
 use Rattle.text.proofs.Pens.{penned-same-length}
 use Rattle.text.proofs.Lined.{cell-behind, behind-filled, ready-behind, ready-nodes, ready-head, ready-few, lines-few, lines-none, lines-empty, lines-more}
 use Rattle.text.proofs.pairs.pairs.Statement.{statement}
@@ -49,15 +49,15 @@ shared-slice-read-if1 c =
     let b = ready-behind (c .before .before .before .before .before .before .before .before .before .pre .1) (c .before .before .loop .c) (omega arith) in
     omega (arith, b .table, c .before .before .before .cell .ensures)
 
-div-line : tie.Need-div-line Inv-loop μ-loop
-div-line c =
-    let h = nodes-in (c .before .before .before .before .before .before .before .before .before .before .before .args .numbers .nodes) (c .before .before .before .before .loop .c) (omega arith) in
-    omega (arith, h .0)
+div-i : tie.Need-div-i Inv-loop μ-loop
+div-i c =
+    let n = c .before .before .before .before .before .before .before .before .before .before .args .numbers .nodes in
+    omega (arith, row-back n n (c .before .before .before .loop .c) (omega arith) .1)
 
-rem-line : tie.Need-rem-line Inv-loop μ-loop
-rem-line c =
-    let h = nodes-in (c .before .before .before .before .before .before .before .before .before .before .before .args .numbers .nodes) (c .before .before .before .before .loop .c) (omega arith) in
-    omega (arith, h .0)
+rem-j : tie.Need-rem-j Inv-loop μ-loop
+rem-j c =
+    let n = c .before .before .before .before .before .before .before .before .before .before .args .numbers .nodes in
+    omega (arith, row-back n n (c .before .before .before .loop .c) (omega arith) .1)
 
 line-requires : tie.Need-line-requires Inv-loop μ-loop
 line-requires c κs =
@@ -65,14 +65,14 @@ line-requires c κs =
     let p = c .before .before .before .before .before .before .before .before .before .before .before .pre in
     let a = c .before .before .before .before .before .before .before .before .before .before .before .args in
     let f = c .before .before .before .before .before .cell .result in
-    let h = nodes-in (c .before .before .before .before .before .before .before .before .before .before .before .args .numbers .nodes) (v .c) (omega arith) in (
+    let h = row-back (a .numbers .nodes) (a .numbers .nodes) (v .c) (omega arith) in (
       omega (arith, v .inv .1 .room, ready-few (p .1)),
       (
         p .1,
         (
           record {
-            from = h .0;
-            to = h .1;
+            from = h .1;
+            to = h .2;
             filled =
                 rw (cell-behind (a .numbers .nodes) (a .a) (v .c))
                 (behind-filled (a .numbers .nodes) (a .a) (v .c) f (a .table .now) (c .before .before .before .before .before .cell .ensures) (c .before .if1 .taken)
@@ -132,8 +132,8 @@ pairs-spec =
     add-k
     mul-if1
     shared-slice-read-if1
-    div-line
-    rem-line
+    div-i
+    rem-j
     line-requires
     add-pairs
     add-c
