@@ -2,7 +2,8 @@
  *
  * nevelknop_run closes a table over a graph and a grammar; nevelknop_witness writes one path out of such a table.
  * Both are proved, allocate nothing, keep nothing between calls, and take any numbers and any bytes, in buffers lent as said
- * below: what they cannot serve they refuse. Link with libnevelknop.a (x86-64 Linux).
+ * below: what they cannot serve they refuse. 1 MB of the caller's stack is enough for every call. Link with libnevelknop.a
+ * (x86-64 Linux).
  *
  * Lists. A list is bytes that hold 16-bit words, low byte first, three words to a record:
  *   a rule   A, B, C       A -> B C, three nonterminals from 0

@@ -25,12 +25,12 @@ NODES, NONTERMINALS, LABELS, RULES = 64, 32, 255, 256
 SHAPES = [(label_rules, edges) for label_rules in (2, 16, 64, 128, 250, 256) for edges in (100, 1400, 4096)]
 EACH = 3  # nets of each shape
 
-DEPENDS = 'speed: words lists deck closure rows\n'
+DEPENDS = 'speed: words numbers deck closure rows\n'
 CRATE = '''use closure::RunAnswer;
 use closure::run;
 use deck::ReadAnswer;
 use deck::read;
-use lists::Numbers;
+use numbers::Numbers;
 use rows::rows;
 use words::Check;
 
