@@ -2,11 +2,11 @@
 use mathlib.Core.Path.{_≡_}
 use mathlib.Core.List.{List, [], _∷_, _++_}
 use mathlib.Core.Bool.{true}
-use Prim.Native.Nat.{ℕ, zero, suc, _*_, _/_, _≤_, _<_}
+use Prim.Native.Nat.{ℕ, zero, suc, _/_, _≤_, _<_}
 use lib.ListN.{length, getD, set, drop}
 use Rattle.key.specs.Keys.{EMPTY, HIGHEST, heightOf}
 use Rattle.meaning.specs.Net.{PairRule}
-use Rattle.meaning.specs.Table.{total}
+use Rattle.meaning.specs.Table.{cellCount, total}
 use Rattle.meaning.specs.Steps.{Step, after, targetOf, tooHigh}
 use Rattle.meaning.specs.Passes.{each, stepsOf}
 use Rattle.closure.specs.declared.Size.{Size}
@@ -15,7 +15,7 @@ use Rattle.closure.specs.declared.End.{End}
 use Rattle.closure.specs.declared.End.the-variants.{Done, High}
 
 abbrev pub count : Size → ℕ
-count z = z .nonterminals * z .nodes * z .nodes
+count z = cellCount (z .nodes) (z .nonterminals)
 
 -- a table with room for every cell and no height over 131,072
 pub record Low (z : Size) (t : List ℕ) : Type 0 where

@@ -9,8 +9,9 @@ ghost use mathlib.Core.Path.{_≡_};
 ghost use Prim.Native.Nat.{_≤_};
 ghost use lib.ListN.{length};
 ghost use Rattle.words.specs.declared.Check.the-variants.{Good};
-ghost use Rattle.deck.specs.Reads.{rightSize, sizeCheck, headerCheck, deckCheck, readCheck, rulesOf, edgesOf, answered, written};
+ghost use Rattle.deck.specs.Reads.{numbersIn, rightSize, sizeCheck, headerCheck, deckCheck, readCheck, rulesOf, edgesOf, answered, written};
 ghost use Rattle.deck.specs.Stages.{Handed, recordsCheck, filledCheck, listsRoom};
+use numbers::Numbers;
 use numbers::room;
 use words::Check;
 use words::Refusal;
@@ -44,6 +45,17 @@ struct Sections {
 enum Found {
     Label(u16),
     Nothing,
+}
+
+// The header's numbers as the engine takes them.
+pub fn numbers_in(h: Header) -> Numbers
+    ensures { λ r. ⌜ r ≡ numbersIn h ⌝ }
+{
+    Numbers {
+        nodes: h.nodes,
+        nonterminals: h.nonterminals,
+        labels: h.labels,
+    }
 }
 
 fn right_size(deck: &[u8]) -> bool

@@ -8,8 +8,8 @@ ghost use Rattle.deck.specs.Stages.{Placed, Handed, Mapped, Kinds, Risin
 use crate::Found;
 use crate::Header;
 use crate::Sections;
+use crate::numbers_in;
 use lists::right_rule;
-use numbers::Numbers;
 use words::Check;
 use words::and_then;
 use words::must;
@@ -106,11 +106,7 @@ fn rule(deck: &[u8], h: Header, s: Sections, r: usize) -> Check
     requires { ⌜ r ≤ 4096 ⌝ }
     ensures { λ c. ⌜ c ≡ ruleRecordCheck (now (deck .entry)) r ⌝ }
 {
-    let numbers = Numbers {
-        nodes: h.nodes,
-        nonterminals: h.nonterminals,
-        labels: h.labels,
-    };
+    let numbers = numbers_in(h);
     let a = rule_word(deck, s, r, 0);
     let b = rule_word(deck, s, r, 1);
     let c = rule_word(deck, s, r, 2);

@@ -1,8 +1,8 @@
 -- Each refusal of the lists 'given exactly when': all before it pass, and its place is the lowest wrong one. Assumes nothing.
-use mathlib.Core.Path.{_≡_, refl, sym}
+use mathlib.Core.Path.{_≡_, refl, sym, _∙_}
 use mathlib.Core.List.{List, [], _∷_}
 use mathlib.Core.Logic.{_≢_, _↔_, Iff·rfl, Iff·and, Iff·trans}
-use mathlib.Core.Bool.{Bool, true}
+use mathlib.Core.Bool.{Bool}
 use Prim.Native.Nat.{ℕ, _/_, _%_, _≤_, _<_}
 use native.Mathlib.Omega.{arith}
 use lib.ListN.{length, getD}
@@ -11,12 +11,12 @@ use Rattle.words.specs.declared.Refusal.{Refusal}
 use Rattle.words.specs.declared.Check.{Check}
 use Rattle.words.specs.declared.Check.the-variants.{Good}
 use Rattle.words.specs.Refusals.{refused, must, _andThen_, scan}
-use Rattle.words.proofs.Refusals.{must-good, scan-good, and-assoc, Only, only-must, only-and, only-scan, and-first, and-second, LowestWrong, scan-must}
+use Rattle.words.proofs.Refusals.{and-assoc, Only, only-must, only-and, only-scan, and-first, and-second, LowestWrong, scan-must}
 use Rattle.meaning.specs.Net.{word}
 use Rattle.numbers.specs.Numbers.{inLimits, limitsCheck}
 use Rattle.lists.specs.Lists.{rightRule, rightEdge, wholeCheck, ruleCheck, edgeCheck, listsCheck}
 use Rattle.numbers.specs.declared.Numbers.{Numbers}
-use Rattle.numbers.proofs.Right.{between-true}
+use Rattle.numbers.proofs.Right.{few-records}
 
 -- ---- one refusal among others
 
@@ -129,12 +129,7 @@ module _ (numbers : Numbers) (rules edges : List ℕ) where
         (Iff·and Iff·rfl (scan-must edged 8 _ p)))
 
   few : C4 ≡ Good → (length rules / 3 ≤ 256) × (length edges / 3 ≤ 4096)
-  unfolding inLimits
-  few g =
-      let c = scan-good (λ k. must (limited k) 4 k) 6 .0 g in (
-        between-true 0 256 (length rules / 3) .0 (must-good _ 4 4 .0 (c 4 (omega arith))) .high,
-        between-true 0 4096 (length edges / 3) .0 (must-good _ 4 5 .0 (c 5 (omega arith))) .high,
-      )
+  few g = few-records numbers (length rules) (length edges) (limits-each ∙ g)
 
   -- no other number is given, and every place is below 4,096
   pub given-only : Only (λ r. (r .number ≤ 8) × (r .place < 4096)) (listsCheck numbers rules edges)

@@ -1,7 +1,7 @@
 -- The start, the table check and the recorded path, computed from the two lists. Assumes nothing.
 use mathlib.Core.List.{List, [], _∷_, _++_}
 use mathlib.Core.Bool.{Bool, true, false, not, cond, _&&_}
-use Prim.Native.Nat.{ℕ, zero, suc, _*_, _/_, _%_}
+use Prim.Native.Nat.{ℕ, zero, suc, _/_, _%_}
 use lib.ListN.{length}
 use lib.Dec.{eqb, ltb}
 use Rattle.key.specs.Keys.{EMPTY, key, heightOf, middleOf, ruleOf}
@@ -9,7 +9,7 @@ use Rattle.words.specs.First.{first}
 use Rattle.words.specs.Tab.{tab}
 use Rattle.meaning.specs.Net.{word}
 use Rattle.meaning.specs.Trees.{joined}
-use Rattle.meaning.specs.Table.{at}
+use Rattle.meaning.specs.Table.{at, cellCount}
 use Rattle.meaning.specs.Lengths.{heldSum}
 
 -- edge e goes from i to j with label x
@@ -38,7 +38,7 @@ unfoldable pub startWord : List ℕ → List ℕ → ℕ → ℕ → ℕ → ℕ
 startWord rules edges A i j = leafWord i (first (isLeaf rules edges A i j) (length rules / 3)) (length rules / 3)
 
 unfoldable pub startTable : ℕ → ℕ → List ℕ → List ℕ → List ℕ
-startTable n m rules edges = tab (λ c. startWord rules edges (c / n / n) (c / n % n) (c % n)) (m * n * n)
+startTable n m rules edges = tab (λ c. startWord rules edges (c / n / n) (c / n % n) (c % n)) (cellCount n m)
 
 -- what the table check asks of the sides (B, i, k) and (C, k, j) of a cell of height h and length l
 unfoldable pub rightSides : ℕ → List ℕ → List ℕ → ℕ → ℕ → ℕ → ℕ → ℕ → ℕ → ℕ → Bool

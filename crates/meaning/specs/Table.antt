@@ -18,9 +18,12 @@ cell n A i j = (A * n + i) * n + j
 abbrev pub at : ℕ → List ℕ → ℕ → ℕ → ℕ → ℕ
 at n t A i j = getD t (cell n A i j) 0
 
--- the number of cells
+-- the number of cells of n nodes and m nonterminals
+abbrev pub cellCount : ℕ → ℕ → ℕ
+cellCount n m = m * n * n
+
 abbrev pub cells : Net → ℕ
-cells g = g .nonterminals * g .nodes * g .nodes
+cells g = cellCount (g .nodes) (g .nonterminals)
 
 -- P at every cell of a table
 abbrev pub Each : Net → (ℕ → ℕ → ℕ → Type 0) → Type 0

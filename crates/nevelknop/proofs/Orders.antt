@@ -16,9 +16,9 @@ use Rattle.packing.specs.Packed.{unpacked}
 use Rattle.words.proofs.Refusals.{must-good, and-good, and-bad, and-next, and-stop, and-assoc}
 use Rattle.words.proofs.Tab.{length-tab}
 use Rattle.numbers.specs.declared.Numbers.{Numbers}
-use Rattle.numbers.specs.Numbers.{inLimits, limitsCheck, largeCheck}
+use Rattle.numbers.specs.Numbers.{limitsCheck, largeCheck}
 use Rattle.lists.specs.Lists.{wholeCheck, listsCheck}
-use Rattle.numbers.proofs.Right.{between-true}
+use Rattle.numbers.proofs.Right.{few-records}
 use Rattle.nevelknop.specs.Calls.{wordsOf, bytesCheck, callCheck}
 
 pub length-unpacked : (k : ℕ) (s : List ℕ) (n : ℕ) → length (unpacked k s n) ≡ n
@@ -37,15 +37,6 @@ whole rules edges e =
     let r = and-good _ _ .0 e in
     record { rules-whole = eqb-true _ _ (must-good _ _ _ .0 (r .0)); edges-whole = eqb-true _ _ (must-good _ _ _ .0 (r .1)) }
 
-few : (numbers : Numbers) (rules edges : ℕ) → limitsCheck numbers rules edges ≡ Good → (rules / 3 ≤ 256) × (edges / 3 ≤ 4096)
-unfolding limitsCheck inLimits
-few numbers rules edges e =
-    let n = and-good _ _ .0 e in
-    let m = and-good _ _ .0 (n .1) in
-    let l = and-good _ _ .0 (m .1) in
-    let k = and-good _ _ .0 (l .1) in
-    (between-true _ _ _ .0 (must-good _ _ _ .0 (k .0)) .high, between-true _ _ _ .0 (must-good _ _ _ .0 (k .1)) .high)
-
 -- few enough for the local arrays
 pub record Counted (rules edges : ℕ) : Type 0 where
   pub few-rules : rules / 2 ≤ 768
@@ -59,7 +50,7 @@ module _ (numbers : Numbers) (rules edges : ℕ) where
   counted e =
       let a = and-good _ _ .0 e in
       let w = whole rules edges (a .0) in
-      let f = few numbers (rules / 2) (edges / 2) (a .1) in
+      let f = few-records numbers (rules / 2) (edges / 2) (a .1) in
       record { few-rules = omega arith; few-edges = omega arith }
 
 module _ (numbers : Numbers) (rules edges : List ℕ) (own : Check) where

@@ -2,12 +2,13 @@
 use mathlib.Core.Path.{_≡_}
 use mathlib.Core.Logic.{_↔_}
 use mathlib.Core.Bool.{true}
-use Prim.Native.Nat.{ℕ, _≤_}
+use Prim.Native.Nat.{ℕ, _/_, _≤_}
 use lib.Dec.{leb}
 use borrow.Author.Tests.{leb-true, le-leb}
 use Rattle.words.specs.declared.Check.the-variants.{Good}
-use Rattle.words.proofs.Refusals.{both, must-good}
-use Rattle.numbers.specs.Numbers.{between, roomCheck}
+use Rattle.words.proofs.Refusals.{both, must-good, and-good}
+use Rattle.numbers.specs.declared.Numbers.{Numbers}
+use Rattle.numbers.specs.Numbers.{between, inLimits, limitsCheck, roomCheck}
 
 pub record Between (a b x : ℕ) : Type 0 where
   pub low : a ≤ x
@@ -25,3 +26,13 @@ unfolding roomCheck
 room-good place want have =
     let m = must-good (leb want have) 10 place in
     (λ e. leb-true _ _ (m .0 e), λ h. m .1 (le-leb _ _ h))
+
+-- within their limits, lists of so many words have few records
+pub few-records : (numbers : Numbers) (rules edges : ℕ) → limitsCheck numbers rules edges ≡ Good → (rules / 3 ≤ 256) × (edges / 3 ≤ 4096)
+unfolding limitsCheck inLimits
+few-records numbers rules edges e =
+    let n = and-good _ _ .0 e in
+    let m = and-good _ _ .0 (n .1) in
+    let l = and-good _ _ .0 (m .1) in
+    let k = and-good _ _ .0 (l .1) in
+    (between-true _ _ _ .0 (must-good _ _ _ .0 (k .0)) .high, between-true _ _ _ .0 (must-good _ _ _ .0 (k .1)) .high)

@@ -1,16 +1,17 @@
 -- The header numbers: their limits, the room that a lent buffer needs, and the number of cells. Assumes nothing.
 use mathlib.Core.List.{[], _∷_}
 use mathlib.Core.Bool.{Bool, _&&_}
-use Prim.Native.Nat.{ℕ, _*_, _/_}
+use Prim.Native.Nat.{ℕ, _/_}
 use lib.ListN.{getD}
 use lib.Dec.{leb}
 use Rattle.words.specs.declared.Check.{Check}
 use Rattle.words.specs.Refusals.{must, _andThen_}
+use Rattle.meaning.specs.Table.{cellCount}
 use Rattle.numbers.specs.declared.Numbers.{Numbers}
 
 -- the number of cells
 abbrev pub cellsOf : Numbers → ℕ
-cellsOf numbers = numbers .nonterminals * numbers .nodes * numbers .nodes
+cellsOf numbers = cellCount (numbers .nodes) (numbers .nonterminals)
 
 abbrev pub between : ℕ → ℕ → ℕ → Bool
 between low high x = leb low x && leb x high

@@ -1,7 +1,7 @@
 // The header numbers: their limits (4, and 13 for the report and the C calls), the room that a lent buffer needs (10), the number of cells.
 // Every function is total; the promise of each is the definition it names.
 ghost use mathlib.Core.Path.{_≡_};
-ghost use Prim.Native.Nat.{_*_};
+ghost use Rattle.meaning.specs.Table.{cellCount};
 ghost use Rattle.numbers.specs.Numbers.{between as betweenOf, inLimits, limitsCheck, largeCheck, roomCheck};
 use meaning::cell;
 use words::Check;
@@ -65,7 +65,7 @@ pub fn room(place: usize, want: usize, have: usize) -> Check
 
 // The number of cells, which is that of the first cell of one nonterminal more.
 pub fn cells(nodes: u16, nonterminals: u16) -> usize
-    ensures { λ r. ⌜ r ≡ nonterminals * nodes * nodes ⌝ }
+    ensures { λ r. ⌜ r ≡ cellCount nodes nonterminals ⌝ }
 {
     cell(nodes, nonterminals, 0, 0)
 }

@@ -1,13 +1,13 @@
 -- One write to a table, and the start as a sequence of them: what the code's inner functions do. Assumes nothing.
 use mathlib.Core.List.{List}
 use mathlib.Core.Bool.{cond}
-use Prim.Native.Nat.{ℕ, zero, suc, _*_, _/_, min}
+use Prim.Native.Nat.{ℕ, zero, suc, _/_, min}
 use lib.ListN.{length, getD, set, replicate}
 use lib.Dec.{eqb}
 use Rattle.words.specs.Tab.{over}
 use Rattle.key.specs.Keys.{EMPTY, key}
 use Rattle.meaning.specs.Net.{word}
-use Rattle.meaning.specs.Table.{cell}
+use Rattle.meaning.specs.Table.{cell, cellCount}
 
 -- the table where word c has become κ, if that is smaller
 unfoldable pub enteredIn : List ℕ → ℕ → ℕ → List ℕ
@@ -40,4 +40,4 @@ rulesIn n rules edges t (suc r) = ruleIn n rules edges (rulesIn n rules edges t 
 
 -- the cells emptied, then the first r rules entered
 abbrev pub begun : ℕ → ℕ → List ℕ → List ℕ → List ℕ → ℕ → List ℕ
-begun n m rules edges t r = rulesIn n rules edges (cleared (m * n * n) t) r
+begun n m rules edges t r = rulesIn n rules edges (cleared (cellCount n m) t) r

@@ -5,6 +5,7 @@ ghost use Prim.Native.Nat.{_<_, _≤_};
 use closure::RunAnswer;
 use closure::run;
 use deck::ReadAnswer;
+use deck::numbers_in;
 use deck::read;
 use key::Key;
 use meaning::key_at;
@@ -131,14 +132,9 @@ fn main() {
     let answer = read(&deck[..n], &mut rules, &mut edges);
     match answer {
         ReadAnswer::Read(h) => {
-            let numbers = Numbers {
-                nodes: h.nodes,
-                nonterminals: h.nonterminals,
-                labels: h.labels,
-            };
             let r = 3 * h.rules;
             let e = 3 * h.edges;
-            closed(numbers, &rules[..r], &edges[..e]);
+            closed(numbers_in(h), &rules[..r], &edges[..e]);
         }
         ReadAnswer::Refused(r) => refused(r),
     }

@@ -12,8 +12,8 @@ use closure::RunAnswer;
 use closure::run;
 use deck::Header;
 use deck::ReadAnswer;
+use deck::numbers_in;
 use deck::read;
-use numbers::Numbers;
 use numbers::cells;
 use numbers::large;
 use words::Check;
@@ -34,16 +34,6 @@ pub enum ReportAnswer {
 struct Count {
     to: usize,
     pairs: u64,
-}
-
-fn numbers_in(h: Header) -> Numbers
-    ensures { λ r. ⌜ r ≡ numbersIn h ⌝ }
-{
-    Numbers {
-        nodes: h.nodes,
-        nonterminals: h.nonterminals,
-        labels: h.labels,
-    }
 }
 
 // The report of a table that is closed.

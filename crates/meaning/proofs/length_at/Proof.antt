@@ -1,12 +1,13 @@
 -- `meaning::length_at` meets its contract: past the end is 0. Assumes nothing.
 use mathlib.Core.Path.{sym}
+use native.Mathlib.Omega.{arith}
 use lib.ListN.{List·getD-eq-default}
 use borrow.Author.Needs.{needs}
 use Rattle.meaning.proofs.length_at.Statement.{statement}
 use Rattle.meaning.proofs.length_at.Tie as tie
 
 returns : tie.Need-returns
-returns c = sym (List·getD-eq-default (c .before .args .lengths .now) 0 (c .if1 .taken))
+returns c = sym (List·getD-eq-default (c .before .args .lengths .now) 0 (omega (arith, c .if1 .taken)))
 
 mul-result : tie.Need-mul-result
 mul-result c = search needs

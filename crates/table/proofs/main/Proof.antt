@@ -45,36 +45,39 @@ mul-e c = let b = c .before .before .before in
     let s = read-is _ (replicate 768 0) (replicate 12288 0) (r .0) (r .1 .0) (r .1 .1) (b .answer .given .1) in
     omega (arith, s .edges-many)
 
+numbers-in-requires : tie.Need-numbers-in-requires
+numbers-in-requires c κs = search needs
+
 array-share-prefix-rules : tie.Need-array-share-prefix-rules
-array-share-prefix-rules c = let b = c .before .before .before in
+array-share-prefix-rules c = let b = c .before .before .before .before in
     let r = b .before .before .before .before .read .ensures in
     let s = read-is _ (replicate 768 0) (replicate 12288 0) (r .0) (r .1 .0) (r .1 .1) (b .answer .given .1) in
     s .rules-fit
 
 slice-aggregate-closed : tie.Need-slice-aggregate-closed
-slice-aggregate-closed c = let b = c .before .before .before .before in
+slice-aggregate-closed c = let b = c .before .before .before .before .before in
     let r = b .before .before .before .before .read .ensures in
     let s = read-is _ (replicate 768 0) (replicate 12288 0) (r .0) (r .1 .0) (r .1 .1) (b .answer .given .1) in
     sym (length-take-le _ _ (s .rules-fit))
 
 array-share-prefix-edges : tie.Need-array-share-prefix-edges
-array-share-prefix-edges c = let b = c .before .before .before .before in
+array-share-prefix-edges c = let b = c .before .before .before .before .before in
     let r = b .before .before .before .before .read .ensures in
     let s = read-is _ (replicate 768 0) (replicate 12288 0) (r .0) (r .1 .0) (r .1 .1) (b .answer .given .1) in
     s .edges-fit
 
 slice-aggregate-closed-2 : tie.Need-slice-aggregate-closed-2
-slice-aggregate-closed-2 c = let b = c .before .before .before .before .before in
+slice-aggregate-closed-2 c = let b = c .before .before .before .before .before .before in
     let r = b .before .before .before .before .read .ensures in
     let s = read-is _ (replicate 768 0) (replicate 12288 0) (r .0) (r .1 .0) (r .1 .1) (b .answer .given .1) in
     sym (length-take-le _ _ (s .edges-fit))
 
 closed-requires : tie.Need-closed-requires
-closed-requires c κs = let b = c .before .before .before .before .before in
+closed-requires c κs = let b = c .before .before .before .before .before .before in
     let r = b .before .before .before .before .read .ensures in
     let s = read-is _ (replicate 768 0) (replicate 12288 0) (r .0) (r .1 .0) (r .1 .1) (b .answer .given .1) in
     let l = accepted _ _ _ (s .lists) in
-    (l .nodes .low, (l .nodes .high, l .nonterminals .high))
+    rw (c .before .before .numbers-in .ensures) (l .nodes .low, (l .nodes .high, l .nonterminals .high))
 
 enum-known-answer-2 : tie.Need-enum-known-answer-2
 enum-known-answer-2 c = search needs
@@ -102,6 +105,7 @@ main-spec =
     enum-known-answer
     mul-r
     mul-e
+    numbers-in-requires
     array-share-prefix-rules
     slice-aggregate-closed
     array-share-prefix-edges

@@ -4,6 +4,9 @@ use borrow.Author.Needs.{needs}
 use Rattle.deck.proofs.records.rule.Statement.{statement}
 use Rattle.deck.proofs.records.rule.Tie as tie
 
+numbers-in-requires : tie.Need-numbers-in-requires
+numbers-in-requires c κs = search needs
+
 rule-word-requires : tie.Need-rule-word-requires
 rule-word-requires c κs = search needs
 
@@ -27,13 +30,15 @@ returns c = rw (
   c .before .before .rule-word3 .ensures,
   c .before .before .before .rule-word2 .ensures,
   c .before .before .before .before .rule-word .ensures,
-  c .before .before .before .before .before .before .pre .0 .header,
+  c .before .before .before .before .before .numbers-in .ensures,
+  c .before .before .before .before .before .before .before .pre .0 .header,
 )
 
 pub rule-spec : {M : Type 1} → statement M
 rule-spec =
     tie.close
     (tie.spec
+    numbers-in-requires
     rule-word-requires
     rule-word-requires-2
     rule-word-requires-3
