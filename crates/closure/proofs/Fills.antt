@@ -14,7 +14,6 @@ use borrow.Author.Tests.{eq-eqb, ne_eqb}
 use Rattle.key.specs.Keys.{EMPTY, height_of}
 use Rattle.words.specs.Tab.{over}
 use Rattle.words.proofs.Tab.{length-fill, get_or-fill}
-use Rattle.meaning.specs.Table.{cell}
 use Rattle.meaning.specs.Lengths.{held_sum}
 use Rattle.meaning.proofs.Sums.{sum_less}
 use Rattle.closure.specs.declared.Size.{Size}

@@ -14,7 +14,7 @@ use numbers::cells;
 const LEVELS: u32 = 1000;
 
 // The cells of a pair cell's two sides.
-#[derive(Drop)]
+#[derive(Clone, Copy)]
 struct Sides {
     left: usize,
     right: usize,

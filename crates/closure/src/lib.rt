@@ -1,5 +1,7 @@
 // The run: start, passes until still, lengths. It answers the depth.
 // `run` is total. Its promise, specs/Runs.antt, settles its answer and every word of both lent slices (proofs/Settled.antt).
+#![tactic(auto)]
+
 ghost use Rattle.std.specs.Prelude.{◌≡◌, ◌≤◌, length, replicate};
 ghost use Rattle.key.specs.Keys.{EMPTY};
 ghost use Rattle.words.specs.Tab.{over};
@@ -18,21 +20,21 @@ mod depth;
 mod lengths;
 mod passes;
 
-#[derive(Drop)]
+#[derive(Clone, Copy)]
 pub enum RunAnswer {
     Depth(u32),
     Refused(Refusal),
 }
 
 // The numbers of nodes and nonterminals, once they are known to be small.
-#[derive(Drop)]
+#[derive(Clone, Copy)]
 struct Size {
     nodes: u16,
     nonterminals: u16,
 }
 
 // A pair rule, read once.
-#[derive(Drop)]
+#[derive(Clone, Copy)]
 struct Pair {
     number: u16,
     head: u16,
@@ -41,7 +43,7 @@ struct Pair {
 }
 
 // How the passes end: still, or at a cell where a step is too high.
-#[derive(Drop)]
+#[derive(Clone, Copy)]
 enum End {
     Done,
     High(usize),

@@ -1,5 +1,7 @@
 // The deck reader: bytes to a list of rules and a list of edges.
 // Its refusals come in document 01's order, stage by stage, and nothing is written before the last check has passed.
+#![tactic(auto)]
+
 mod blocks;
 mod copy;
 mod reader;
@@ -14,7 +16,7 @@ use numbers::{Numbers, room};
 use words::{Check, Refusal, and_then, must};
 
 // The seven header numbers.
-#[derive(Drop)]
+#[derive(Clone, Copy)]
 pub struct Header {
     pub nodes: usize,
     pub nonterminals: usize,
@@ -25,14 +27,14 @@ pub struct Header {
     pub query: usize,
 }
 
-#[derive(Drop)]
+#[derive(Clone, Copy)]
 pub enum ReadAnswer {
     Read(Header),
     Refused(Refusal),
 }
 
 // The first blocks of the map, the rules and the edges.
-#[derive(Drop)]
+#[derive(Clone, Copy)]
 struct Sections {
     map: usize,
     rules: usize,
@@ -40,7 +42,7 @@ struct Sections {
 }
 
 // The label of a kind, or nothing where no map entry has it.
-#[derive(Drop)]
+#[derive(Clone, Copy)]
 enum Found {
     Label(u16),
     Nothing,

@@ -6,7 +6,7 @@ use crate::blocks::frame;
 use words::Check;
 
 // The deck and the next block number.
-#[derive(Drop)]
+#[derive(Clone, Copy)]
 struct Reader<'a> {
     deck: &'a [u8],
     next: usize,

@@ -1,14 +1,16 @@
 // The key of a filled cell: height, middle and rule number packed into one 64-bit word.
 // Every function is total, and its promise is an equation, which settles its answer.
+#![tactic(auto)]
+
 ghost use Rattle.std.specs.Prelude.{◌≡◌, eqb};
 ghost use Rattle.key.specs.Keys.{EMPTY, key, parts_of};
 
-#[derive(Drop)]
+#[derive(Clone, Copy)]
 pub struct Key {
     pub word: u64,
 }
 
-#[derive(Drop)]
+#[derive(Clone, Copy)]
 pub struct Parts {
     pub height: u32,
     pub middle: u16,

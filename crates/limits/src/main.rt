@@ -1,5 +1,7 @@
 // The limits of document 01, run over the reader: builds decks at each limit and past it, and one for each refusal that the
 // reader can give, and writes a line each with what it answers. The stored output says what is right.
+#![tactic(auto)]
+
 use build::{Sizes, build, head, numbers, put, seal};
 use tell::{tell_front, tell_short};
 

@@ -1,5 +1,7 @@
 // The engine's own checks of its numbers and lists: refusals 5, 4, 7, 8 in document 01's order.
 // Every function is total; the promise of each is the definition it names.
+#![tactic(auto)]
+
 ghost use Rattle.std.specs.Prelude.{◌≡◌, ◌/◌, length};
 ghost use Rattle.words.specs.Refusals.{scan};
 ghost use Rattle.lists.specs.Lists.{right_rule, right_edge, whole_check, rule_check, edge_check, lists_check};

@@ -1,5 +1,7 @@
 // What document 01 means, and the mathematics that every engine cites: definitions in specs/, theorems in proofs/.
 // The only code is that of a few definitions: a list's word, a cell's number, its key and its length, a pair's height and length.
+#![tactic(auto)]
+
 ghost use Rattle.std.specs.Prelude.{◌≡◌, get_or};
 ghost use Rattle.meaning.specs.Net.{word as word_of};
 ghost use Rattle.meaning.specs.Table.{cell as cell_of};

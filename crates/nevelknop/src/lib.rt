@@ -1,6 +1,8 @@
 // What C calls: the run and the witness on numbers and byte slices, words packed little-endian and checked inside.
 // Both take any input. The lists' words go into local arrays, which 4 keeps large enough; so do the table's and the
 // lengths' words, of which 13 lets no call need more than 2,048.
+#![tactic(auto)]
+
 ghost use Rattle.nevelknop.specs.Calls.{numbers_of, RunCall, WitnessCall};
 
 use checks::{counts_check, numbers_of, refusal};
@@ -14,8 +16,7 @@ mod running;
 mod walking;
 
 // Closes a table: document 01's run. include/nevelknop.h says the same to C.
-#[unsafe(no_mangle)]
-pub extern "C" fn nevelknop_run(
+pub fn nevelknop_run(
     nodes: u32,
     nonterminals: u32,
     labels: u32,
@@ -41,8 +42,7 @@ pub extern "C" fn nevelknop_run(
 }
 
 // Writes the path of cell (a, i, j) out of a table that is checked first: document 01's witness.
-#[unsafe(no_mangle)]
-pub extern "C" fn nevelknop_witness(
+pub fn nevelknop_witness(
     nodes: u32,
     nonterminals: u32,
     labels: u32,

@@ -1,5 +1,7 @@
 // The header numbers: their limits (4, and 13 for the report and the C calls), the room that a lent buffer needs (10), the number of cells.
 // Every function is total; the promise of each is the definition it names.
+#![tactic(auto)]
+
 ghost use Rattle.std.specs.Prelude.{◌≡◌};
 ghost use Rattle.meaning.specs.Table.{cell_count};
 ghost use Rattle.numbers.specs.Numbers.{between as between_of, in_limits, limits_check, large_check, room_check};
@@ -8,7 +10,7 @@ use meaning::cell;
 use words::{Check, and_then, must};
 
 // The first three header numbers.
-#[derive(Drop)]
+#[derive(Clone, Copy)]
 pub struct Numbers {
     pub nodes: usize,
     pub nonterminals: usize,

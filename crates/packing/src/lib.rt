@@ -1,4 +1,6 @@
 // Lists of words packed in bytes: as many words as both lists have room for; what is past them keeps its value.
+#![tactic(auto)]
+
 ghost use Rattle.std.specs.Prelude.{◌≡◌, min};
 ghost use Rattle.packing.specs.Packed.{unpacked_into, packed_into};
 

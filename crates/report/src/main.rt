@@ -1,4 +1,6 @@
 // The report program: it reads one deck on standard input and writes its report to standard output.
+#![tactic(auto)]
+
 ghost use Rattle.std.specs.Prelude.{◌≡◌, length};
 
 use text::{ReportAnswer, report};

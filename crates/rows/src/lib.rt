@@ -1,5 +1,7 @@
 // The second engine: the Boolean closure of source document 004 on rows of 64 bits, worked by rounds.
 // Bit j of word A × nodes + i stands for the cell (A, i, j). It knows nothing of the table or of its engine.
+#![tactic(auto)]
+
 ghost use Rattle.std.specs.Prelude.{◌≡◌, ℕ, ◌+◌, ◌*◌, ◌/◌, ◌≤◌, ◌<◌, length};
 ghost use Rattle.meaning.specs.Net.{Sane};
 ghost use Rattle.meaning.specs.Rows.{bit};

@@ -1,5 +1,7 @@
 // The start of a table, the first of the two calls that demand 3 speaks of; and its two parts, which the run uses too.
 // Every function is total; what the start does to the table is document 01's own words, what each part does one equation.
+#![tactic(auto)]
+
 ghost use Rattle.std.specs.Prelude.{◌≡◌};
 ghost use Rattle.start.specs.Entering.{entered_in, cleared, leaf_in, rule_in, rules_in, begun};
 ghost use Rattle.start.specs.Calls.{start_check, StartCall};

@@ -1,5 +1,7 @@
 // The single step, the second of the two calls that demand 3 speaks of (crate start has the first).
 // Every function is total; what each does to the table is one equation.
+#![tactic(auto)]
+
 ghost use Rattle.std.specs.Prelude.{◌≡◌, ◌/◌, length};
 ghost use Rattle.meaning.specs.Net.{word as word_of};
 ghost use Rattle.meaning.specs.Table.{cell as cell_of};
@@ -14,7 +16,7 @@ use meaning::{cell, key_at, pair_height, word};
 use numbers::{Numbers, cells, room};
 use words::{Check, Refusal, and_then, must};
 
-#[derive(Drop)]
+#[derive(Clone, Copy)]
 pub enum StepAnswer {
     Changed,
     Unchanged,

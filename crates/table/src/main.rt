@@ -1,6 +1,8 @@
 // The whole closed table of a deck of any size: what large comparisons run on. It reads a deck on standard input, refuses as
 // the reader does, and else writes a line `A i j height middle rule length` for every filled cell, by cell number, and then
 // `cells N depth D`; and `rows differ` where the second engine's answer is another.
+#![tactic(auto)]
+
 ghost use Rattle.std.specs.Prelude.{◌<◌, ◌≤◌};
 
 use closure::{RunAnswer, run};

@@ -9,7 +9,7 @@ use lib.ListN.{length, get_or}
 use Rattle.key.specs.Keys.{EMPTY, parts_of}
 use Rattle.key.specs.declared.Parts.{Parts}
 use Rattle.meaning.specs.Net.{Net}
-use Rattle.meaning.specs.Table.{at, cell}
+use Rattle.meaning.specs.Table.{cell}
 use Rattle.meaning.proofs.Cells.{cell_in}
 use Rattle.meaning.proofs.Rows.{row_back}
 use Rattle.numbers.specs.declared.Numbers.{Numbers}

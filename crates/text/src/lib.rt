@@ -1,4 +1,6 @@
 // The report's text, to the byte, as one call: it reads a deck, closes its table and writes the report into a lent text.
+#![tactic(auto)]
+
 ghost use Rattle.std.specs.Prelude.{◌≡◌, ◌<◌};
 ghost use Rattle.words.specs.declared.Check.TheVariants.{Good};
 ghost use Rattle.meaning.specs.Lengths.{depth as depth_of};
@@ -20,14 +22,14 @@ mod pen;
 // Room for any report: at most 256 pairs, each with at most 1,024 edges of six bytes, and two lines more.
 const ROOM: usize = 1650000;
 
-#[derive(Drop)]
+#[derive(Clone, Copy)]
 pub enum ReportAnswer {
     Wrote(usize),
     Short,
 }
 
 // Where the pen stands, and how many pairs it has written.
-#[derive(Drop)]
+#[derive(Clone, Copy)]
 struct Count {
     to: usize,
     pairs: u64,

@@ -1,5 +1,7 @@
 // The table check and the witness: whether a table is right, whoever made it, and the path that a right table records.
 // A witness is written left side then right, whole or a window of it at a time.
+#![tactic(auto)]
+
 ghost use Rattle.std.specs.Prelude.{◌≡◌, [], ◌∷◌, ◌/◌, ◌*◌, ◌-◌, ◌<◌, ◌≤◌, length, ltb, leb};
 ghost use Rattle.key.specs.Keys.{height_of, parts_of};
 ghost use Rattle.words.specs.Refusals.{scan};
@@ -13,20 +15,20 @@ use meaning::{cell, held_sum, key_at, length_at, pair_height, word};
 use numbers::{Numbers, room};
 use words::{Check, Refusal, and_then, must};
 
-#[derive(Drop)]
+#[derive(Clone, Copy)]
 pub enum WitnessAnswer {
     Wrote(usize),
     Refused(Refusal),
 }
 
-#[derive(Drop)]
+#[derive(Clone, Copy)]
 enum Found {
     At(usize),
     Nothing,
 }
 
 // Cell (a, i, j) of a table over `nodes` nodes.
-#[derive(Drop)]
+#[derive(Clone, Copy)]
 struct Spot {
     nodes: u16,
     a: u16,

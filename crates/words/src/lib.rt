@@ -2,19 +2,21 @@
 // Every function is total: a byte past the end reads as 0 and is not written. Where p itself is past the end a function
 // returns at once, so that the position of the high half does not wrap. Each promise is an equation, which settles the
 // answer, or every byte of the lent slice.
+#![tactic(auto)]
+
 ghost use Rattle.std.specs.Prelude.{◌≡◌};
 ghost use Rattle.words.specs.Bytes.{le_at, put_le};
 ghost use Rattle.words.specs.Refusals.{must as must_of, ◌and_then◌};
 
 // Document 01: "Each refusal is a number and a place."
-#[derive(Drop)]
+#[derive(Clone, Copy)]
 pub struct Refusal {
     pub number: u32,
     pub place: usize,
 }
 
 // Good, or the first refusal in document 01's order.
-#[derive(Drop)]
+#[derive(Clone, Copy)]
 pub enum Check {
     Good,
     Bad(Refusal),

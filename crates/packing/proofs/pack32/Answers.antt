@@ -1,0 +1,13 @@
+-- `packing::pack32` meets its contract: each turn packs one word more. Assumes nothing.
+use native.Mathlib.Omega.{arith}
+use Rattle.packing.proofs.Packed.{packing_none, packing_more, packing_all}
+use Rattle.packing.proofs.pack32.Goals as goal
+
+pub loop-w-init : goal.loop-w-init
+loop-w-init c = packing_none 4 _ _ _
+
+pub loop-w-preserved : goal.loop-w-preserved
+loop-w-preserved c = packing_more (omega arith) (omega arith) c.loop-w.invariant c.loop-w-test.true c.write32.ensures
+
+pub returns : goal.returns
+returns c = rw (← c.shorter-n.ensures) (packing_all c.loop-w.invariant c.loop-w-test.false)
