@@ -2,9 +2,10 @@
 
     python3 tests/compare.py [--seed WORD] [--decks N] [--calls N] [--seconds N] [--all] [--bin FOLDER] [--library FILE]
 
-Runs report and table (target/bin) on decks, and nevelknop_run and nevelknop_witness (target/staticlib/libnevelknop.a) on
-C calls, and stops with status 1 at the first difference; the deck or call is saved in target/differs/. A deck or a call is
-made from the seed and its own number alone. What is not built is skipped with a line, or with --all is an error.
+Runs report and table (crates/NAME/out/NAME, or FOLDER/NAME) on decks, and nevelknop_run and nevelknop_witness
+(target/staticlib/libnevelknop.a, a copy of what rt lib makes in crates/nevelknop_c) on C calls, and stops with status 1 at
+the first difference; the deck or call is saved in target/differs/. A deck or a call is made from the seed and its own
+number alone. What is not built is skipped with a line, or with --all is an error.
 --seconds goes on with new inputs for so long, and then N need not be given.
 """
 import argparse
@@ -38,8 +39,8 @@ def options(words):
     parser.add_argument('--calls', type=int)
     parser.add_argument('--seconds', type=float)
     parser.add_argument('--all', action='store_true')
-    parser.add_argument('--bin', type=pathlib.Path, default=ROOT / 'target' / 'bin')
-    parser.add_argument('--library', type=pathlib.Path, default=ROOT / 'target' / 'staticlib' / 'libnevelknop.a')
+    parser.add_argument('--bin', type=pathlib.Path)
+    parser.add_argument('--library', type=pathlib.Path, default=machine.LIBRARY)
     chosen = parser.parse_args(words)
     endless = chosen.seconds is not None
     chosen.decks = chosen.decks if chosen.decks is not None else 10**9 if endless else DECKS
@@ -199,7 +200,8 @@ def random_calls(server, chosen):
 # Both, in turn, until the counts or the time is reached
 
 def compare(chosen):
-    programs = {name: chosen.bin / name for name in PROGRAMS if built(chosen.bin / name, chosen)}
+    programs = {name: chosen.bin / name if chosen.bin else machine.program(name) for name in PROGRAMS}
+    programs = {name: path for name, path in programs.items() if built(path, chosen)}
     server = machine.build('calls', chosen.library) if built(chosen.library, chosen) else None
     first_decks = sum(1 for _ in fixed_decks(programs)) if programs else 0
     first_calls = fixed_calls(server) if server else 0

@@ -1,13 +1,13 @@
-"""The machine: how to build a C test with the kit's own compiler, and how to run a program.
+"""The machine: where rt leaves what it builds, how to build a C test with the kit's own compiler, and how to run a program.
 
-Programs are compiled for x86-64. On aarch64 they run under the kit's emulator.
+Programs and the library are for x86-64 Linux, and so are these tests.
 """
 import functools
 import pathlib
-import platform
 import subprocess
 
 ROOT = pathlib.Path(__file__).resolve().parent.parent
+LIBRARY = ROOT / 'target' / 'staticlib' / 'libnevelknop.a'
 TARGET = 'x86_64-unknown-linux-gnu'
 LIMIT = 120  # seconds after which a program counts as hanging
 Hangs = subprocess.TimeoutExpired
@@ -15,23 +15,19 @@ Hangs = subprocess.TimeoutExpired
 
 @functools.cache
 def kit():
-    """The kit's folder for this machine."""
+    """The kit's folder."""
     guide = subprocess.run(['rt', 'doc'], check=True, capture_output=True, text=True).stdout.strip()
-    return pathlib.Path(guide).parent.parent / 'on' / platform.machine()
+    return pathlib.Path(guide).parent
 
 
-def command(program):
-    """The words that start an x86-64 program here."""
-    if platform.machine() == 'x86_64':
-        return [str(program)]
-    lib = kit() / 'toolchain' / 'lib'
-    return [str(kit() / 'toolchain' / 'bin' / 'qemu-x86_64'), str(lib / 'ld-linux-x86-64.so.2'),
-            '--library-path', str(lib), str(program)]
+def program(name):
+    """The program of crate NAME as rt builds it."""
+    return ROOT / 'crates' / name / 'out' / name
 
 
 def run(program, data=b''):
     """What a program writes for this input: it must end well, in time, and complain of nothing."""
-    done = subprocess.run(command(program), input=data, capture_output=True, timeout=LIMIT)
+    done = subprocess.run([program], input=data, capture_output=True, timeout=LIMIT)
     if done.returncode or done.stderr:
         raise RuntimeError(f'{program} ended with {done.returncode}: {done.stdout[-500:]!r} {done.stderr[-500:]!r}')
     return done.stdout

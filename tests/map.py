@@ -16,7 +16,8 @@ RATTLE = re.compile(r'^\s*(pub )?(?:extern "C" )?(?:fn|struct|enum|const) (\w+)'
 
 def files(ending):
     for base, dirs, names in os.walk(CRATES):
-        dirs[:] = [d for d in dirs if d != 'target']
+        if os.path.dirname(base) == CRATES:
+            dirs[:] = [d for d in dirs if d != 'out']  # what rt made; a folder out/ further down is ours
         for name in sorted(names):
             if name.endswith(ending):
                 yield os.path.join(base, name)

@@ -1,7 +1,7 @@
 #!/usr/bin/env python3
 """Times the run, the rows, the reader and the report here, the first two against the same loops in C: docs/SPEED.md is made of it.
 
-    python3 tests/speed.py [SEED]        after `rt check`; needs gcc and an x86-64 machine with nothing else running
+    python3 tests/speed.py [SEED]        after `rt ci`; needs gcc and an x86-64 machine with nothing else running
 
 The measured crate is made in a copy of the repository, so that nothing unproved stands in ours. Not part of the gate:
 a time is no promise.
@@ -25,8 +25,10 @@ NODES, NONTERMINALS, LABELS, RULES = 64, 32, 255, 256
 SHAPES = [(label_rules, edges) for label_rules in (2, 16, 64, 128, 250, 256) for edges in (100, 1400, 4096)]
 EACH = 3  # nets of each shape
 
-DEPENDS = 'speed: words numbers deck closure rows\n'
-CRATE = '''use closure::RunAnswer;
+DEPENDS = 'speed staticlib: words numbers deck closure rows\n'
+CRATE = '''#![tactic(auto)]
+
+use closure::RunAnswer;
 use closure::run;
 use deck::ReadAnswer;
 use deck::read;
@@ -38,7 +40,7 @@ fn numbers_of(nodes: u32, nonterminals: u32, labels: u32) -> Numbers {
     Numbers { nodes: nodes as usize, nonterminals: nonterminals as usize, labels: labels as usize }
 }
 
-#[no_mangle]
+#[unsafe(no_mangle)]
 pub extern "C" fn speed_run(nodes: u32, nonterminals: u32, labels: u32, rules: &[u16], edges: &[u16], table: &mut [u64], lengths: &mut [u32]) -> u64 {
     let answer = run(numbers_of(nodes, nonterminals, labels), rules, edges, table, lengths);
     match answer {
@@ -47,7 +49,7 @@ pub extern "C" fn speed_run(nodes: u32, nonterminals: u32, labels: u32, rules: &
     }
 }
 
-#[no_mangle]
+#[unsafe(no_mangle)]
 pub extern "C" fn speed_rows(nodes: u32, nonterminals: u32, labels: u32, rules: &[u16], edges: &[u16], bits: &mut [u64]) -> u64 {
     let answer = rows(numbers_of(nodes, nonterminals, labels), rules, edges, bits);
     match answer {
@@ -56,7 +58,7 @@ pub extern "C" fn speed_rows(nodes: u32, nonterminals: u32, labels: u32, rules: 
     }
 }
 
-#[no_mangle]
+#[unsafe(no_mangle)]
 pub extern "C" fn speed_read(deck: &[u8], rules: &mut [u16], edges: &mut [u16]) -> u64 {
     let answer = read(deck, rules, edges);
     match answer {
@@ -69,17 +71,17 @@ pub extern "C" fn speed_read(deck: &[u8], rules: &mut [u16], edges: &mut [u16]) 
 
 def library(folder):
     """The measured crate, proved and built in a copy of the repository."""
-    for part in ('crates', 'target'):
-        if (machine.ROOT / part).exists():
-            shutil.copytree(machine.ROOT / part, folder / part)
+    crates = machine.ROOT / 'crates'
+    made = lambda base, names: {'out'} if pathlib.Path(base).parent == crates else ()
+    shutil.copytree(crates, folder / 'crates', ignore=made)
     source = folder / 'crates' / 'speed' / 'src'
     source.mkdir(parents=True)
     (source / 'lib.rt').write_text(CRATE)
     (folder / 'crates.txt').write_text((machine.ROOT / 'crates.txt').read_text() + DEPENDS)
-    done = subprocess.run(['rt', 'staticlib', 'speed'], cwd=folder, capture_output=True, text=True)
+    done = subprocess.run(['rt', 'lib'], cwd=folder / 'crates' / 'speed', capture_output=True, text=True)
     if done.returncode:
         sys.exit(f'tests/speed.py: the measured crate was not built:\n{done.stdout[-2000:]}{done.stderr[-2000:]}')
-    return folder / 'target' / 'staticlib' / 'libspeed.a'
+    return folder / 'crates' / 'speed' / 'out' / 'libspeed.a'
 
 
 def net(rng, label_rules, edges):
@@ -119,7 +121,7 @@ def report_ms(deck):
     times = []
     for _ in range(5):
         before = resource.getrusage(resource.RUSAGE_CHILDREN).ru_utime
-        machine.run(machine.ROOT / 'target' / 'bin' / 'report', deck)
+        machine.run(machine.program('report'), deck)
         times.append(resource.getrusage(resource.RUSAGE_CHILDREN).ru_utime - before)
     return 1000 * min(times)
 
