@@ -18,7 +18,7 @@ use Rattle.meaning.specs.Lengths.{held_sum}
 use Rattle.meaning.proofs.Sums.{sum_less}
 use Rattle.closure.specs.declared.Size.{Size}
 use Rattle.closure.specs.Passes.{count}
-use Rattle.closure.specs.Fills.{left_side, right_side, PairCell, KnownCell, unknown, one, sides, Known, Wanted, Idle, empty, known as is_Known, zeros, Grown, Filled, FilledAt}
+use Rattle.closure.specs.Fills.{left_side, right_side, PairCell, KnownCell, unknown, one, sides, Known, Wanted, Idle, empty, known as is_known, zeros, Grown, Filled, FilledAt}
 
 pub held_pos : (a b : ℕ) → a ≢ 0 → held_sum a b ≢ 0
 unfolding held_sum
@@ -107,7 +107,7 @@ module _ (z : Size) (rules t : List ℕ) where
   -- what is not wanted is idle
   pub idle_unwanted : (ls : List ℕ) (c : ℕ) → Wanted t ls c false → Idle z rules t ls c
   idle_unwanted ls c (inl e) = empty e
-  idle_unwanted ls c (inr n) = is_Known n
+  idle_unwanted ls c (inr n) = is_known n
 
   -- nothing to do at c
   pub filled_idle : (ls : List ℕ) (c : ℕ) → Known z rules t ls → Idle z rules t ls c → FilledAt z rules t ls ls (λ x. x ≡ c) false

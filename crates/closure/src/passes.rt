@@ -42,6 +42,7 @@ fn joined_key(left: u64, right: u64, k: u16, r: u16) -> u64
 }
 
 // One step: cell `to` is offered what a filled left side and the word of cell `from` give.
+#[tactic(auto, using(meaning::proofs::Cells::candidate_filled, meaning::proofs::Cells::candidate_right, crate::proofs::Swept::sweep_high))]
 fn join(table: &mut [u64], to: usize, left: u64, from: usize, k: u16, r: u16) -> usize
     requires to_in_bounds { (to < length table.old) × (from < length table.old) }
     requires left_bound { (left < EMPTY) × (height_of left ≤ HIGHEST) }
@@ -166,6 +167,7 @@ fn pass(table: &mut [u64], z: Size, rules: &[u16]) -> usize
 }
 
 // Passes until a whole one moves nothing. It ends, since every other lowers the total of the table's words.
+#[tactic(auto, using(crate::proofs::Swept::passing_none, crate::proofs::Swept::passing_still, crate::proofs::Swept::passing_moved))]
 pub(crate) fn settle(table: &mut [u64], z: Size, rules: &[u16]) -> End
     requires low { Low z table.old }
     requires rules { Rules z rules.now }

@@ -1,4 +1,4 @@
-// What C calls: the run and the witness on numbers and byte slices, words packed little-endian and checked inside.
+// What C calls, through nevelknop_c: the run and the witness on numbers and byte slices, words packed little-endian and checked inside.
 // Both take any input. The lists' words go into local arrays, which 4 keeps large enough; so do the table's and the
 // lengths' words, of which 13 lets no call need more than 2,048.
 #![tactic(auto)]

@@ -188,6 +188,7 @@ fn leaf_right(rules: &[u16], edges: &[u16], s: Spot, key: Parts, length: u32) ->
 }
 
 // Whether a cell of greater height has its rule, its middle and its sides.
+#[tactic(auto, unfolding(crate::specs::Walks::pair_right))]
 fn pair_right(
     rules: &[u16],
     table: &[u64],
@@ -218,6 +219,7 @@ fn pair_right(
 }
 
 // Whether one cell is as the table check wants it.
+#[tactic(auto, using(crate::proofs::Rights::cell_leaf, crate::proofs::Rights::cell_pair), unfolding(meaning::specs::Computed::right_cell, meaning::specs::Computed::right_word))]
 fn cell_right(rules: &[u16], edges: &[u16], table: &[u64], lengths: &[u32], s: Spot) -> bool
     ensures { result ≡ right_cell s.nodes rules.now edges.now table.now lengths.now s.a s.i s.j }
 {

@@ -23,6 +23,7 @@ pub enum Check {
 }
 
 // Refusal `number` at `place`, unless `ok` holds.
+#[tactic(auto, unfolding(crate::specs::Refusals::must))]
 pub fn must(ok: bool, number: u32, place: usize) -> Check
     ensures { result ≡ must_of ok number place }
 {

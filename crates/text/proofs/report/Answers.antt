@@ -5,9 +5,8 @@ use Rattle.text.proofs.report.Goals as goal
 
 pub returns : goal.returns
 returns c =
-    let p = c.written.ensures in
-    let l = c.if-text-lt-ROOM.false in (
-      l,
+    let p = c.written.ensures in (
+      omega arith,
       record {
         report = p.text;
         is = p.is;

@@ -12,26 +12,26 @@ use Rattle.witness.proofs.+expand_walk.Goals as goal
 
 pub expand-walk-w-requires : goal.expand-walk-w-requires
 expand-walk-w-requires t c =
-    let left-of = c.left_of-left in
-    rw left-of.ensures (left_falls c.requires c.decreases, left_ready c.requires)
+    let left_of = c.left_of-left in
+    rw left_of.ensures (left_falls c.requires c.decreases, left_ready c.requires)
 
 pub expand-offset_bounds-path-w : goal.expand-offset_bounds-path-w
 expand-offset_bounds-path-w t c =
-    let left-of = c.left_of-left in
+    let left_of = c.left_of-left in
     let walk = c.walk-w in
-    omega (arith, left_fits c.requires left-of.ensures walk.ensures, walk.auto.path, c.well_formed.1.1.1.1.1.1.1.0)
+    omega (arith, left_fits c.requires left_of.ensures walk.ensures, walk.auto.path, c.well_formed.1.1.1.1.1.1.1.0)
 
 pub expand-slice_bounds-walk-count : goal.expand-slice_bounds-walk-count
 expand-slice_bounds-walk-count t c =
-    let left-of = c.left_of-left in
+    let left_of = c.left_of-left in
     let walk = c.walk-w in
-    omega (arith, left_fits c.requires left-of.ensures walk.ensures, walk.auto.path)
+    omega (arith, left_fits c.requires left_of.ensures walk.ensures, walk.auto.path)
 
 pub expand-slice_bounds-walk-start : goal.expand-slice_bounds-walk-start
 expand-slice_bounds-walk-start t c =
-    let left-of = c.left_of-left in
+    let left_of = c.left_of-left in
     let walk = c.walk-w in
-    omega (arith, left_fits c.requires left-of.ensures walk.ensures, walk.auto.path)
+    omega (arith, left_fits c.requires left_of.ensures walk.ensures, walk.auto.path)
 
 pub expand-walk-v-requires : goal.expand-walk-v-requires
 expand-walk-v-requires t c =
@@ -40,13 +40,13 @@ expand-walk-v-requires t c =
 
 pub expand-overflow_add-result : goal.expand-overflow_add-result
 expand-overflow_add-result t c =
-    let left-of = c.left_of-left in
+    let left_of = c.left_of-left in
     let right_of = c.right_of-right in
     let past = c.past-rest in
-    let length-of = c.length_of in
+    let length_of = c.length_of in
     let walk = c.walk-w in
     let walk2 = c.walk-v in
-    omega (arith, both_fit c.requires left-of.ensures right_of.ensures (past.ensures ∙ ap (λ n. c.args.from - n) length-of.ensures) walk.ensures walk2.ensures, c.well_formed.1.1.1.1.1.1.1.0)
+    omega (arith, both_fit c.requires left_of.ensures right_of.ensures (past.ensures ∙ ap (λ n. c.args.from - n) length_of.ensures) walk.ensures walk2.ensures, c.well_formed.1.1.1.1.1.1.1.0)
 
 pub expand-shape_of-path : goal.expand-shape_of-path
 expand-shape_of-path t c =
@@ -56,13 +56,13 @@ expand-shape_of-path t c =
 
 pub expand-returns : goal.expand-returns
 expand-returns t c =
-    let left-of = c.left_of-left in
+    let left_of = c.left_of-left in
     let right_of = c.right_of-right in
     let past = c.past-rest in
-    let length-of = c.length_of in
+    let length_of = c.length_of in
     let walk = c.walk-w in
     let walk2 = c.walk-v in
-    walk_both c.requires left-of.ensures right_of.ensures (past.ensures ∙ ap (λ n. c.args.from - n) length-of.ensures) walk.ensures walk2.ensures
+    walk_both c.requires left_of.ensures right_of.ensures (past.ensures ∙ ap (λ n. c.args.from - n) length_of.ensures) walk.ensures walk2.ensures
 
 pub walk-returns-then-before : goal.walk-returns-then-before
 walk-returns-then-before t c =
@@ -101,8 +101,8 @@ walk-returns-then-parts-eq1 t c =
     let before2 = c.before-2 in
     let if1 = c.if-before in
     let if2 = c.if-path-eq0 in
-    let write-edge = c.write_edge in
-    walk_leaf c.requires (parts-of.ensures ∙ ap parts_of key_of.ensures) if3.true (leb-false _ _ (sym before2.ensures ∙ if1.false)) (omega (arith, if2.false)) write-edge.ensures
+    let write_edge = c.write_edge in
+    walk_leaf c.requires (parts-of.ensures ∙ ap parts_of key_of.ensures) if3.true (leb-false _ _ (sym before2.ensures ∙ if1.false)) (omega (arith, if2.false)) write_edge.ensures
 
 pub walk-shape_of-path-else-parts-eq1 : goal.walk-shape_of-path-else-parts-eq1
 walk-shape_of-path-else-parts-eq1 t c = c.expand.auto.path

@@ -21,18 +21,18 @@ cell_check-got-requires c =
 pub returns-in-Bad : goal.returns-in-Bad
 returns-in-Bad c =
     let enum_told = c.in-Bad in
-    let loop-test = c.loop-c-test in
+    let loop_test = c.loop-c-test in
     let loop = c.loop-c in
-    let cell-check = c.cell_check-got in
+    let cell_check = c.cell_check-got in
     let e = enum_told.is in
-    e ∙ sym (scan_bad _ _ _ loop-test.true loop.invariant.1 (sym cell-check.ensures ∙ e))
+    e ∙ sym (scan_bad _ _ _ loop_test.true loop.invariant.1 (sym cell_check.ensures ∙ e))
 
 pub loop-c-preserved : goal.loop-c-preserved
 loop-c-preserved c =
     let loop = c.loop-c in
-    let cell-check = c.cell_check-got in
-    let enum-told2 = c.in_default in
-    (search rules, scan_more _ _ loop.invariant.1 (sym cell-check.ensures ∙ enum-told2.is))
+    let cell_check = c.cell_check-got in
+    let enum_told2 = c.in_default in
+    (search rules, scan_more _ _ loop.invariant.1 (sym cell_check.ensures ∙ enum_told2.is))
 
 pub returns : goal.returns
 returns c = sym c.loop-c.invariant.1 ∙ ap (scan _) (le_antisymm c.loop-c.invariant.0 c.loop-c-test.false)

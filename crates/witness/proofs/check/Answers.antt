@@ -16,5 +16,5 @@ pub returns : goal.returns
 unfolding check_answer
 returns c =
     let check = c.check-listed in
-    let enum-told2 = c.in_default in
-    c.table_check.ensures ∙ sym (and_next (sym check.ensures ∙ enum-told2.is))
+    let enum_told2 = c.in_default in
+    c.table_check.ensures ∙ sym (and_next (sym check.ensures ∙ enum_told2.is))

@@ -33,6 +33,6 @@ returns c =
     let if2 = c.if-word-s in
     let word2 = c.word-2 in
     let if3 = c.if-word in
-    let some-edge = c.some_edge in
+    let some_edge = c.some_edge in
     let word3 = c.word-3 in
-    rw (lt-ltb _ _ if1.false, ← word.ensures, eq-eqb _ _ if2.false, ← word2.ensures, eq-eqb _ _ if3.false, some-edge.ensures, word3.ensures)
+    rw (lt-ltb _ _ if1.false, ← word.ensures, eq-eqb _ _ if2.false, ← word2.ensures, eq-eqb _ _ if3.false, some_edge.ensures, word3.ensures)

@@ -9,6 +9,6 @@ returns c =
     let must = c.must-filled in
     let must2 = c.must in
     let key_of = c.key_of in
-    let length-of = c.length_of in
+    let length_of = c.length_of in
     let cell = c.cell in
-    rw (and_then.ensures, must.ensures, must2.ensures, key_of.ensures, length-of.ensures, cell.ensures)
+    rw (and_then.ensures, must.ensures, must2.ensures, key_of.ensures, length_of.ensures, cell.ensures)

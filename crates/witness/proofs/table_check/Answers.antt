@@ -31,9 +31,9 @@ cells_check-requires c =
 pub returns : goal.returns
 unfolding table_check
 returns c =
-    let enum-told2 = c.in_default in
+    let enum_told2 = c.in_default in
     let and_then = c.and_then-roomy in
     let room2 = c.room-2 in
     let room = c.room in
-    let roomy = rw (room.ensures, room2.ensures) at (sym and_then.ensures ∙ enum-told2.is) in
+    let roomy = rw (room.ensures, room2.ensures) at (sym and_then.ensures ∙ enum_told2.is) in
     c.cells_check.ensures ∙ sym (sym (and_assoc _ _ _) ∙ and_next roomy)

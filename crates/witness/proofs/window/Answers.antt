@@ -6,27 +6,27 @@ use Rattle.witness.proofs.window.Goals as goal
 
 pub returns-in-Bad : goal.returns-in-Bad
 returns-in-Bad c =
-    let window-check = c.window_check-ready in
+    let window_check = c.window_check-ready in
     let ready = c.in-Bad in
-    Answered.refused (sym window-check.ensures ∙ ready.is) refl
+    Answered.refused (sym window_check.ensures ∙ ready.is) refl
 
 pub asked_spot-s-requires : goal.asked_spot-s-requires
 asked_spot-s-requires c =
-    let window-check = c.window_check-ready in
+    let window_check = c.window_check-ready in
     let enum_told = c.in_default in
-    window_asked _ _ _ _ _ _ _ _ (sym window-check.ensures ∙ enum_told.is)
+    window_asked _ _ _ _ _ _ _ _ (sym window_check.ensures ∙ enum_told.is)
 
 pub walk-requires : goal.walk-requires
 walk-requires c =
-    let asked-spot = c.asked_spot-s in
-    let window-check = c.window_check-ready in
+    let asked_spot = c.asked_spot-s in
+    let window_check = c.window_check-ready in
     let enum_told = c.in_default in
-    rw asked-spot.ensures (window_ready _ _ _ _ _ _ _ _ (sym window-check.ensures ∙ enum_told.is))
+    rw asked_spot.ensures (window_ready _ _ _ _ _ _ _ _ (sym window_check.ensures ∙ enum_told.is))
 
 pub returns : goal.returns
 returns c =
-    let asked-spot = c.asked_spot-s in
-    let window-check = c.window_check-ready in
+    let asked_spot = c.asked_spot-s in
+    let window_check = c.window_check-ready in
     let enum_told = c.in_default in
     let walk = c.walk in
-    window_wrote _ _ _ _ _ _ _ _ (sym window-check.ensures ∙ enum_told.is) asked-spot.ensures walk.ensures
+    window_wrote _ _ _ _ _ _ _ _ (sym window_check.ensures ∙ enum_told.is) asked_spot.ensures walk.ensures

@@ -18,42 +18,42 @@ returns-in-Bad c =
 pub table_check-right-requires : goal.table_check-right-requires
 table_check-right-requires c =
     let and_then = c.and_then-asked in
-    let enum-told2 = c.in_default in
+    let enum_told2 = c.in_default in
     let check = c.check in
-    let e = sym and_then.ensures ∙ enum-told2.is in
+    let e = sym and_then.ensures ∙ enum_told2.is in
     sizes _ _ _ (sym check.ensures ∙ ((and_good _ _).0 e).0)
 
 pub returns-in-Bad-right : goal.returns-in-Bad-right
 unfolding window_check
 returns-in-Bad-right c =
     let and_then = c.and_then-asked in
-    let enum-told2 = c.in_default in
+    let enum_told2 = c.in_default in
     let check = c.check in
     let arguments = c.arguments in
-    let table-check = c.table_check-right in
+    let table_check = c.table_check-right in
     let e = c.in-Bad-right.is in
-    let asked = rw (check.ensures, arguments.ensures) at (sym and_then.ensures ∙ enum-told2.is) in
-    e ∙ sym (sym (and_assoc _ _ _) ∙ and_next asked ∙ and_stop _ (sym table-check.ensures ∙ e))
+    let asked = rw (check.ensures, arguments.ensures) at (sym and_then.ensures ∙ enum_told2.is) in
+    e ∙ sym (sym (and_assoc _ _ _) ∙ and_next asked ∙ and_stop _ (sym table_check.ensures ∙ e))
 
 pub asked_spot-requires : goal.asked_spot-requires
 asked_spot-requires c =
     let and_then = c.and_then-asked in
-    let enum-told2 = c.in_default in
+    let enum_told2 = c.in_default in
     let check = c.check in
     let arguments = c.arguments in
-    let e = sym and_then.ensures ∙ enum-told2.is in
+    let e = sym and_then.ensures ∙ enum_told2.is in
     asked _ _ _ _ _ _ (rw (check.ensures, arguments.ensures) at e)
 
 pub returns : goal.returns
 unfolding window_check
 returns c =
     let and_then = c.and_then-asked in
-    let enum-told2 = c.in_default in
-    let asked-spot = c.asked_spot in
-    let path-check = c.path_check in
+    let enum_told2 = c.in_default in
+    let asked_spot = c.asked_spot in
+    let path_check = c.path_check in
     let check = c.check in
     let arguments = c.arguments in
-    let table-check = c.table_check-right in
-    let enum-told4 = c.in_default-right in
-    let e = sym and_then.ensures ∙ enum-told2.is in
-    (rw asked-spot.ensures at path-check.ensures) ∙ sym (sym (and_assoc _ _ _) ∙ and_next (rw (check.ensures, arguments.ensures) at e) ∙ and_next (sym table-check.ensures ∙ enum-told4.is))
+    let table_check = c.table_check-right in
+    let enum_told4 = c.in_default-right in
+    let e = sym and_then.ensures ∙ enum_told2.is in
+    (rw asked_spot.ensures at path_check.ensures) ∙ sym (sym (and_assoc _ _ _) ∙ and_next (rw (check.ensures, arguments.ensures) at e) ∙ and_next (sym table_check.ensures ∙ enum_told4.is))

@@ -6,20 +6,20 @@ use Rattle.witness.proofs.write_edge.Goals as goal
 
 pub overflow_cast-path : goal.overflow_cast-path
 overflow_cast-path c =
-    let find-edge = c.find_edge-found in
+    let find_edge = c.find_edge-found in
     let found = c.in-At in
-    omega (arith, found_inside _ _ _ _ (sym find-edge.ensures ∙ found.is), c.requires.few)
+    omega (arith, found_inside _ _ _ _ (sym find_edge.ensures ∙ found.is), c.requires.few)
 
 pub returns-in-At : goal.returns-in-At
 returns-in-At c =
     let word = c.word in
-    let find-edge = c.find_edge-found in
+    let find_edge = c.find_edge-found in
     let found = c.in-At in
-    rw (← word.ensures) (found_written _ _ _ _ (sym find-edge.ensures ∙ found.is) c.requires.room)
+    rw (← word.ensures) (found_written _ _ _ _ (sym find_edge.ensures ∙ found.is) c.requires.room)
 
 pub returns-in-Nothing : goal.returns-in-Nothing
 returns-in-Nothing c =
-    let find-edge = c.find_edge-found in
+    let find_edge = c.find_edge-found in
     let enum_told = c.in-Nothing in
     let word = c.word in
-    absurd (found_never _ _ _ _ (sym find-edge.ensures ∙ enum_told.is) (rw (← word.ensures) at c.requires.edge))
+    absurd (found_never _ _ _ _ (sym find_edge.ensures ∙ enum_told.is) (rw (← word.ensures) at c.requires.edge))
