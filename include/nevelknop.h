@@ -23,8 +23,8 @@
  * and bytes at the end that make no whole word are neither read nor written.
  *
  * Answers. A call answers a count below 2^32, or refusal * 2^32 + place: ask nevelknop_refused first. A refused call
- * has changed no byte. (A run refused with NEVELKNOP_TOO_HIGH would leave every cell empty and every
- * length 0, but no table within the limits can be that high.)
+ * has changed no byte. (A run refused with NEVELKNOP_TOO_HIGH would leave all cells empty and all
+ * lengths 0, but no table within the limits can be that high.)
  */
 #ifndef NEVELKNOP_H
 #define NEVELKNOP_H

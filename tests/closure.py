@@ -1,9 +1,9 @@
 """The independent reference: what every Nevelknop program and C call must answer.
 
-Written from document 01 and from the two papers it builds on (000 and 004), and sharing nothing
-with the crates, so that a difference between the two says that one of them reads document 01 wrongly.
+Written from the rules (docs/RULES.md), and sharing nothing with the crates, so that a difference between
+the two says that one of them reads the rules wrongly.
 The run is not worked in place: least heights are found level by level on rows of bits, and each cell's
-middle and rule are then selected as document 01 words it. `tests/test_closure.py` tests this file.
+middle and rule are then selected as rules 4.5 and 4.6 say. `tests/test_closure.py` tests this file.
 """
 import struct
 from collections import namedtuple
@@ -37,7 +37,7 @@ Header = namedtuple('Header', 'nodes nonterminals labels entries rules edges que
 # The deck
 
 def read(deck):
-    """The deck's header and its net, or a refusal 1 to 9 in document 01's order."""
+    """The deck's header and its net, or a refusal 1 to 9 in the order of rule 3.5."""
     must(0 < len(deck) <= 29696 and len(deck) % 512 == 0, 1, 0)
     blocks = [deck[at:at + 512] for at in range(0, len(deck), 512)]
     types = [block[0] for block in blocks]

@@ -89,7 +89,7 @@ def check():
     assert kept == set(files), f'too many or too few: {sorted(map(str, kept ^ set(files)))}'
     for path, data in files.items():
         assert path.read_bytes() == data, f'{path} is not what tests/examples.py --write makes'
-    assert files[EXAMPLES / 'sample.expected'].decode() == SAMPLE, 'not the report of document 01'
+    assert files[EXAMPLES / 'sample.expected'].decode() == SAMPLE, 'not the report of the sample deck'
     assert files[EXAMPLES / 'sample-kind12.expected'] == b'refused 9 at 4\n'
     count = 0
     for name, deck, expected in decks():

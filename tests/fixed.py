@@ -14,7 +14,7 @@ FAR = range(2**33)  # a path buffer that is nothing but addresses: room for any 
 # Decks
 
 def limit_decks():
-    """Decks at each limit of document 01 and one past it, by name."""
+    """Decks at each limit and one past it, by name."""
     base = dict(nodes=2, nonterminals=2, labels=2, entries=2, rules=2, edges=2)
     cases = [base, dict(nodes=64, nonterminals=32, labels=255, entries=256, rules=256, edges=4096),
              dict(nodes=64, nonterminals=32, labels=5, entries=256, rules=256, edges=1400)]
@@ -39,7 +39,7 @@ def counted_deck(nodes, nonterminals, labels, entries, rules, edges, query):
 
 
 def other_decks():
-    """Decks by size, the kinds 0 and 65535, lengths at which answers change, and the papers' worst case."""
+    """Decks by size, the kinds 0 and 65535, lengths at which answers change, and the worst case."""
     header = pack((1, 1, 1, 0, 0, 0, 0), [], [], [])
     for size in (0, 1, 511, 512, 513, 1024, 29696, 29697, 30208, 100000):
         yield f'{size} bytes', (header * 200)[:size]

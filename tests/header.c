@@ -1,4 +1,4 @@
-/* The C calls as a C programmer meets them, through include/nevelknop.h alone: document 01's sample, every refusal
+/* The C calls as a C programmer meets them, through include/nevelknop.h alone: the sample deck, every refusal
  * that a C call can give, what a refused call leaves, odd sizes, odd addresses, and canary bytes round each buffer.
  * Ends with 0 and one line that counts the checks, or names the first line that fails.
  */

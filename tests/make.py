@@ -58,7 +58,7 @@ def plain_net(rng, most):
 
 
 def double_cycle(u, v):
-    """The papers' worst case: a cycle of u edges a and one of v edges b, that share node 0; words a^n b^n."""
+    """The worst case: a cycle of u edges a and one of v edges b, that share node 0; words a^n b^n."""
     ring = lambda first, size: [0] + list(range(first, first + size - 1)) + [0]
     edges = [(i, x, j) for x, way in ((1, ring(1, u)), (2, ring(u, v))) for i, j in zip(way, way[1:])]
     rules = [(0, 2, 3), (0, 2, 1), (1, 0, 3), (2, 1, LABEL), (3, 2, LABEL)]

@@ -11,7 +11,7 @@ ROOT = os.path.dirname(os.path.dirname(os.path.abspath(__file__)))
 CRATES = os.path.join(ROOT, 'crates')
 ANTT = re.compile(r'^\s*(?:(?:unfoldable|abbrev|pub) )*((?:[^\s:(){}]+ )*[^\s:(){}]+)(?: \{[^}]*\})? :(?:\s|$)')
 TYPE = re.compile(r'^\s*(?:pub )?(?:record|data) (\S+)')
-RATTLE = re.compile(r'^\s*(pub )?(?:extern "C" )?(?:fn|struct|enum|const) (\w+)')
+RATTLE = re.compile(r'^\s*(pub(?:\(crate\))? )?(?:extern "C" )?(?:fn|struct|enum|const|trait|ghost) (\w+)')
 
 
 def files(ending):
@@ -42,11 +42,13 @@ def declared():
 
 
 def functions(path, prefix):
-    """The public functions of a source file, each behind the prefix and its type, and the public modules it declares."""
-    owner, calls, modules = None, [], []
+    """The public functions of a source file, each behind the prefix and its type, the public modules it declares, and the
+    names that it hands on from a private one."""
+    owner, calls, modules, handed = None, [], [], []
     for line in open(path, encoding='utf-8'):
-        if re.match(r'^impl (\w+)', line):
-            owner = line.split()[1]
+        m = re.match(r'^impl(?:<[^>]*>)? (\w+)', line)
+        if m:
+            owner = m[1]
         elif line.startswith('}'):
             owner = None
         m = RATTLE.match(line)
@@ -55,7 +57,10 @@ def functions(path, prefix):
         m = re.match(r'^pub mod (\w+);', line)
         if m:
             modules.append(m[1])
-    return calls, modules
+        m = re.match(r'^pub use crate::(\w+)::(?:(\w+)|\{([^}]*)\});', line)
+        if m:
+            handed.append((m[1], {name.strip() for name in (m[2] or m[3]).split(',')}))
+    return calls, modules, handed
 
 
 def public_calls():
@@ -64,10 +69,13 @@ def public_calls():
     for crate in sorted(os.listdir(CRATES)):
         source = os.path.join(CRATES, crate, 'src')
         if os.path.exists(os.path.join(source, 'lib.rt')):
-            calls, modules = functions(os.path.join(source, 'lib.rt'), [crate])
+            calls, modules, handed = functions(os.path.join(source, 'lib.rt'), [crate])
             found += calls
             for module in modules:
                 found += functions(os.path.join(source, module + '.rt'), [crate, module])[0]
+            for module, names in handed:
+                inner = functions(os.path.join(source, module + '.rt'), [crate])[0]
+                found += [call for call in inner if call.split('::')[1] in names]
     return found
 
 

@@ -28,13 +28,10 @@ EACH = 3  # nets of each shape
 DEPENDS = 'speed staticlib: words numbers deck closure rows\n'
 CRATE = '''#![tactic(auto)]
 
-use closure::RunAnswer;
 use closure::run;
-use deck::ReadAnswer;
 use deck::read;
 use numbers::Numbers;
 use rows::rows;
-use words::Check;
 
 fn numbers_of(nodes: u32, nonterminals: u32, labels: u32) -> Numbers {
     Numbers { nodes: nodes as usize, nonterminals: nonterminals as usize, labels: labels as usize }
@@ -42,28 +39,25 @@ fn numbers_of(nodes: u32, nonterminals: u32, labels: u32) -> Numbers {
 
 #[unsafe(no_mangle)]
 pub extern "C" fn speed_run(nodes: u32, nonterminals: u32, labels: u32, rules: &[u16], edges: &[u16], table: &mut [u64], lengths: &mut [u32]) -> u64 {
-    let answer = run(numbers_of(nodes, nonterminals, labels), rules, edges, table, lengths);
-    match answer {
-        RunAnswer::Depth(d) => d as u64,
-        RunAnswer::Refused(_) => 4294967296,
+    match run(numbers_of(nodes, nonterminals, labels), rules, edges, table, lengths) {
+        Ok(depth) => u64::from(depth),
+        Err(_) => 4294967296,
     }
 }
 
 #[unsafe(no_mangle)]
 pub extern "C" fn speed_rows(nodes: u32, nonterminals: u32, labels: u32, rules: &[u16], edges: &[u16], bits: &mut [u64]) -> u64 {
-    let answer = rows(numbers_of(nodes, nonterminals, labels), rules, edges, bits);
-    match answer {
-        Check::Good => 0,
-        Check::Bad(_) => 1,
+    match rows(numbers_of(nodes, nonterminals, labels), rules, edges, bits) {
+        Ok(()) => 0,
+        Err(_) => 1,
     }
 }
 
 #[unsafe(no_mangle)]
 pub extern "C" fn speed_read(deck: &[u8], rules: &mut [u16], edges: &mut [u16]) -> u64 {
-    let answer = read(deck, rules, edges);
-    match answer {
-        ReadAnswer::Read(_) => 1,
-        ReadAnswer::Refused(_) => 0,
+    match read(deck, rules, edges) {
+        Ok(_) => 1,
+        Err(_) => 0,
     }
 }
 '''

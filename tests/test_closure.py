@@ -1,4 +1,4 @@
-"""The reference's own test: document 01's checked examples, document 000's figure, and brute force.
+"""The reference's own test: the checked examples of rule 13.1, a double cycle known from print, and brute force.
 
 The brute force shares no idea with the closure: it lists every path of a tiny graph up to a length, parses each
 path's labels by itself, and takes the least key over all of them. A tree of height h has at most 2^(h-1) edges,
@@ -31,7 +31,7 @@ def refusal(action, *arguments):
 
 
 def checked_examples():
-    """Document 01's checked examples a to i."""
+    """The checked examples a to i."""
     at = lambda net, a, i, j: close(net)[cell(net, a, i, j)]
     height_and_middle = lambda *where: split(at(*where))[:2]
     assert at(SAMPLE, 0, 0, 4) == 17180065798  # a
@@ -52,8 +52,8 @@ def checked_examples():
     return 9
 
 
-def paper():
-    """Document 000, figure 6: S of the double cycle as (i, j): (middle, height, length)."""
+def known_cycle():
+    """The double cycle of 3 and 2, known from print: S as (i, j): (middle, height, length)."""
     figure = {(0, 0): (1, 12, 12), (0, 3): (1, 6, 6), (1, 0): (2, 4, 4),
               (1, 3): (2, 10, 10), (2, 0): (0, 8, 8), (2, 3): (0, 2, 2)}
     net = make.double_cycle(3, 2)
@@ -189,7 +189,7 @@ def lengths_reached():
 
 
 def main():
-    print(f'reference: {checked_examples()} examples of document 01, {paper()} cells of document 000, {refusals()} refusals')
+    print(f'reference: {checked_examples()} checked examples, {known_cycle()} cells of a known table, {refusals()} refusals')
     print(f'reference: {lengths_reached()} lengths reached, {any_order(60)} tables closed by steps in any order')
     print(f'reference: {brute_force(500)} cells compared with brute force')
 

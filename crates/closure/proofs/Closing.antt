@@ -7,11 +7,13 @@ use native.Mathlib.Omega.{arith}
 use native.Mathlib.Decide.{dec_lt}
 use lib.ListN.{length, get_or}
 use Rattle.key.specs.Keys.{EMPTY, HIGHEST, height_of, middle_of}
-use Rattle.words.specs.declared.Check.TheVariants.{Good}
+use Rattle.words.specs.Refusals.{Good}
+use Rattle.words.specs.declared.Refusal.{Refusal}
+use Rattle.std.specs.Prelude.{Result, Ok, Err}
 use Rattle.words.proofs.Refusals.{and_good}
 use Rattle.meaning.specs.Net.{Net, Sane}
 use Rattle.meaning.specs.Table.{cell, at, Each, StartTable}
-use Rattle.meaning.specs.Steps.{Step, Possible, All}
+use Rattle.meaning.specs.Steps.{Step, Possible, All, target_of}
 use Rattle.meaning.specs.Passes.{steps_of}
 use Rattle.meaning.specs.Final.{FinalTable}
 use Rattle.meaning.specs.Lengths.{LengthCell, none, one, sum, Lengths}
@@ -30,10 +32,10 @@ use Rattle.lists.specs.Lists.{net, lists_check}
 use Rattle.numbers.proofs.Right.{room_good}
 use Rattle.lists.proofs.Right.{RightLists, accepted, sane}
 use Rattle.closure.specs.declared.Size.{Size}
-use Rattle.closure.specs.declared.End.TheVariants.{Done, High}
-use Rattle.closure.specs.Passes.{count, Low, Rules, passes, Settled}
+use Rattle.closure.specs.Sizes.{count, LowTable, RulesInside}
+use Rattle.closure.specs.Passes.{passes, Settled}
 use Rattle.closure.specs.Fills.{left_side, right_side, PairCell, Linked, KnownCell, unknown, one, sides, Idle, empty, known, waits, Finished}
-use Rattle.closure.specs.Runs.{run_check, High12}
+use Rattle.closure.specs.Runs.{run_check, High12, RunIs}
 
 -- what holds of every step holds of those before one, and of that one
 all_before : (P : Step → Type 0) (ss : List Step) (s : Step) (rest : List Step) → All P (ss ++ (s ∷ rest)) → All P ss × P s
@@ -41,13 +43,13 @@ all_before P [] s rest a = (tt, a.0)
 all_before P (x ∷ ss) s rest a = let h = all_before P ss s rest a.1 in ((a.0, h.0), h.1)
 
 -- what the run's checks leave
-pub record Ready (numbers : Numbers) (rules edges t ls : List ℕ) : Type 0 where
+pub record RunReady (numbers : Numbers) (rules edges t ls : List ℕ) : Type 0 where
   pub lists : RightLists numbers rules edges
   pub table : cells_of numbers ≤ length t
   pub lengths : cells_of numbers ≤ length ls
 
 module _ (numbers : Numbers) (rules edges t ls : List ℕ) (good : run_check numbers rules edges (length t) (length ls) ≡ Good) where
-  pub ready : Ready numbers rules edges t ls
+  pub ready : RunReady numbers rules edges t ls
   unfolding run_check
   ready =
       let a = (and_good (lists_check numbers rules edges) _).0 good in
@@ -57,6 +59,12 @@ module _ (numbers : Numbers) (rules edges t ls : List ℕ) (good : run_check num
         table = (room_good 0 (cells_of numbers) (length t)).0 b.0;
         lengths = (room_good 1 (cells_of numbers) (length ls)).0 b.1;
       }
+
+-- a refused run changes nothing
+pub run_refused : (numbers : Numbers) (rules edges t ls : List ℕ) {a : Result ℕ Refusal} (r : Refusal) → a ≡ Err r
+    → run_check numbers rules edges (length t) (length ls) ≡ Err r
+    → RunIs (run_check numbers rules edges (length t) (length ls)) (net numbers rules edges) t ls t ls a
+run_refused numbers rules edges t ls r e d = rw d (e, record { table = refl; lengths = refl })
 
 module _ (numbers : Numbers) (rules edges : List ℕ) (lists : RightLists numbers rules edges) where
   abbrev g : Net
@@ -71,28 +79,28 @@ module _ (numbers : Numbers) (rules edges : List ℕ) (lists : RightLists number
   ok : Sane (net numbers rules edges)
   ok = sane numbers rules edges lists
 
-  pub rules_right : Rules z rules
-  rules_right = record { few = lists.many_rules; pair = λ r A B C p. let q = ok.pairs r A B C p in (q.head, q.left, q.right) }
+  pub rules_right : RulesInside z rules
+  rules_right = record { few = lists.many_rules; pair = λ r A B C p. let q = ok.pairs r A B C p in record { head = q.head; left = q.left; right = q.right } }
 
   module _ (t : List ℕ) (start : StartTable g t) where
-    pub start_low : Low z t
+    pub start_low : LowTable z t
     start_low = record { long = start.long; cell = cells_numbers g t (λ A i j v. v < EMPTY → height_of v ≤ HIGHEST) (high_few ok t (start_high ok t start)) }
 
     passes_can : (c : ℕ) → All (Possible g) (passes rules n c)
     passes_can c = all_each (Possible g) (λ x. steps_of rules n) c (λ x l. (pass_of n numbers.nonterminals rules edges).only)
 
     -- the passes end in the final table
-    pub settled_final : (t' : List ℕ) → Settled z rules t t' Done → FinalTable g t'
+    pub settled_final : (t' : List ℕ) → Settled z rules t t' (Ok tt) → FinalTable g t'
     settled_final t' s =
         let still = pass_still {g = g} t' (steps_of rules n) (pass_of n numbers.nonterminals rules edges) s.ended.1 in
         rw s.ended.0 (start_final ok t start (passes rules n s.passed) (passes_can s.passed) (rw s.ended.0 at still))
 
     -- or a step would be too high
-    pub settled_high : (t' : List ℕ) (c : ℕ) → Settled z rules t t' (High c) → High12 g c
-    settled_high t' c s =
+    pub settled_high : (t' : List ℕ) (r : Refusal) (s : Settled z rules t t' (Err r)) → High12 g (target_of n s.ended.step)
+    settled_high t' r s =
         let h = s.ended in
         let can = all_before (Possible g) h.done h.step h.rest (rw h.split at (passes_can s.passed)) in
-        record { start = t; starts = start; steps = h.done; only = can.0; step = h.step; can = can.1; high = h.high; place = h.place }
+        record { start = t; starts = start; steps = h.done; only = can.0; step = h.step; can = can.1; high = h.high; place = refl }
 
   -- a pair cell, the rule it names, and its sides by their numbers
   record PairAt (t : List ℕ) (A i j : ℕ) : Type 0 where
@@ -168,7 +176,7 @@ module _ (numbers : Numbers) (rules edges : List ℕ) (lists : RightLists number
           go ih (waits p (inl e)) = let b = below c l p in absurd (ih _ b.left_in (omega (arith, b.left_low)) b.left e)
           go ih (waits p (inr e)) = let b = below c l p in absurd (ih _ b.right_in (omega (arith, b.right_low)) b.right e)
 
-      -- so the lengths are document 01's
+      -- so the lengths are the table's
       pub finished_lengths : Lengths g t ls'
       finished_lengths = record { long = done.known.long; cell = λ A i j hA hi hj. each A i j hA hi hj }
         where

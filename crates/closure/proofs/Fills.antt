@@ -1,6 +1,6 @@
 -- Lengths as they become known: none, one more, and two stretches after each other. Assumes nothing.
 use mathlib.Core.Path.{◌≡◌, refl, ap, ◌∙◌}
-use mathlib.Core.List.{List}
+use mathlib.Core.List.{List, ◌++◌}
 use mathlib.Core.Logic.{◌≢◌, inl, inr}
 use mathlib.Core.Bool.{Bool, true, false, cond, ◌||◌}
 use Prim.Native.Nat.{ℕ, ◌+◌, ◌≤◌, ◌<◌}
@@ -17,8 +17,8 @@ use Rattle.words.proofs.Tab.{length-fill, get_or-fill}
 use Rattle.meaning.specs.Lengths.{held_sum}
 use Rattle.meaning.proofs.Sums.{sum_less}
 use Rattle.closure.specs.declared.Size.{Size}
-use Rattle.closure.specs.Passes.{count}
-use Rattle.closure.specs.Fills.{left_side, right_side, PairCell, KnownCell, unknown, one, sides, Known, Wanted, Idle, empty, known as is_known, zeros, Grown, Filled, FilledAt}
+use Rattle.closure.specs.Sizes.{count}
+use Rattle.closure.specs.Fills.{left_side, right_side, PairCell, KnownCell, unknown, one, sides, KnownLengths, Wanted, Idle, empty, known as is_known, zeros, MoreKnown, Filled, LengthsFilled}
 
 pub held_pos : (a b : ℕ) → a ≢ 0 → held_sum a b ≢ 0
 unfolding held_sum
@@ -33,20 +33,20 @@ or_right false b e = e
 or_right true b e = absurd (let k : ◌≡◌ {A = ℕ} 0 1 = cc in omega arith)
 
 module _ (z : Size) (rules t : List ℕ) where
-  pub filled_none : (ls : List ℕ) → Known z rules t ls → Filled z rules t ls ls false
+  pub filled_none : (ls : List ℕ) → KnownLengths z rules t ls → Filled z rules t ls ls false
   filled_none ls known = record { known = known; grown = refl; kept = refl }
 
   pub filled_more : (ls ls' ls'' : List ℕ) (a b : Bool) → Filled z rules t ls ls' a → Filled z rules t ls' ls'' b → Filled z rules t ls ls'' (a || b)
   filled_more ls ls' ls'' a b p q = record { known = q.known; grown = go a b p.grown q.grown; kept = q.kept ∙ p.kept }
     where
-      go : (a b : Bool) → Grown z ls ls' a → Grown z ls' ls'' b → Grown z ls ls'' (a || b)
+      go : (a b : Bool) → MoreKnown z ls ls' a → MoreKnown z ls' ls'' b → MoreKnown z ls ls'' (a || b)
       go true true l m = omega arith
       go true false l e = rw e l
       go false true e m = rw (← e) m
       go false false e d = d ∙ e
 
   -- a word that was not known becomes known: others stay as they are
-  module _ (ls : List ℕ) (c v : ℕ) (known : Known z rules t ls) (inside : c < count z) (unset : get_or ls c 0 ≡ 0) (pos : v ≢ 0) where
+  module _ (ls : List ℕ) (c v : ℕ) (known : KnownLengths z rules t ls) (inside : c < count z) (unset : get_or ls c 0 ≡ 0) (pos : v ≢ 0) where
     abbrev now : List ℕ
     now = set ls c v
 
@@ -73,7 +73,7 @@ module _ (z : Size) (rules t : List ℕ) where
         below a (yes e) = rw (e, here, ne_eqb v 0 pos) (omega arith)
         below a (no n) = rw (get_or-set_other ls c a v 0 n) (le_refl _)
 
-    filled_set : KnownCell z rules t now c → (P : ℕ → Type 0) → FilledAt z rules t ls now P true
+    filled_set : KnownCell z rules t now c → (P : ℕ → Type 0) → LengthsFilled z rules t ls now P true
     filled_set new P = record {
       filled = record {
         known = record { long = rw length-set known.long; cell = λ x l. go x l (ℕ_discrete x c) };
@@ -88,15 +88,15 @@ module _ (z : Size) (rules t : List ℕ) where
         go x l (no n) = stays x n (known.cell x l)
 
   -- the length of a cell of height 1
-  pub filled_one : (ls : List ℕ) (c : ℕ) → Known z rules t ls → c < count z → get_or ls c 0 ≡ 0 → get_or t c 0 < EMPTY → height_of (get_or t c 0) ≡ 1
-      → (P : ℕ → Type 0) → FilledAt z rules t ls (set ls c 1) P true
+  pub filled_one : (ls : List ℕ) (c : ℕ) → KnownLengths z rules t ls → c < count z → get_or ls c 0 ≡ 0 → get_or t c 0 < EMPTY → height_of (get_or t c 0) ≡ 1
+      → (P : ℕ → Type 0) → LengthsFilled z rules t ls (set ls c 1) P true
   filled_one ls c known inside unset f h =
       filled_set ls c 1 known inside unset (λ e. omega arith) (one f h (here ls c 1 known inside unset (λ e. omega arith)))
 
   -- the length of a pair cell, once those of its sides, a and b, are known
-  pub filled_pair : (ls : List ℕ) (c a b v : ℕ) → Known z rules t ls → c < count z → get_or ls c 0 ≡ 0 → PairCell t c
+  pub filled_pair : (ls : List ℕ) (c a b v : ℕ) → KnownLengths z rules t ls → c < count z → get_or ls c 0 ≡ 0 → PairCell t c
       → a ≡ left_side z rules t c → b ≡ right_side z rules t c → get_or ls a 0 ≢ 0 → get_or ls b 0 ≢ 0
-      → v ≡ held_sum (get_or ls a 0) (get_or ls b 0) → (P : ℕ → Type 0) → FilledAt z rules t ls (set ls c v) P true
+      → v ≡ held_sum (get_or ls a 0) (get_or ls b 0) → (P : ℕ → Type 0) → LengthsFilled z rules t ls (set ls c v) P true
   filled_pair ls c a b v known inside unset p ea eb l r e =
       let pos : v ≢ 0 = rw e (held_pos (get_or ls a 0) (get_or ls b 0) l) in
       let el = same ls c v known inside unset pos a l in
@@ -110,17 +110,17 @@ module _ (z : Size) (rules t : List ℕ) where
   idle_unwanted ls c (inr n) = is_known n
 
   -- nothing to do at c
-  pub filled_idle : (ls : List ℕ) (c : ℕ) → Known z rules t ls → Idle z rules t ls c → FilledAt z rules t ls ls (λ x. x ≡ c) false
+  pub filled_idle : (ls : List ℕ) (c : ℕ) → KnownLengths z rules t ls → Idle z rules t ls c → LengthsFilled z rules t ls ls (λ x. x ≡ c) false
   filled_idle ls c known idle = record { filled = filled_none ls known; idle = λ e x q. rw q idle }
 
   -- what is idle after two stretches
-  pub filled_then : (ls ls' ls'' : List ℕ) (P : ℕ → Type 0) (a b : Bool) → Filled z rules t ls ls' a → FilledAt z rules t ls' ls'' P b
-      → FilledAt z rules t ls ls'' P (a || b)
+  pub filled_then : (ls ls' ls'' : List ℕ) (P : ℕ → Type 0) (a b : Bool) → Filled z rules t ls ls' a → LengthsFilled z rules t ls' ls'' P b
+      → LengthsFilled z rules t ls ls'' P (a || b)
   filled_then ls ls' ls'' P a b p q = record { filled = filled_more ls ls' ls'' a b p q.filled; idle = λ e. q.idle (or_right a b e) }
 
   -- one more cell of a sweep
-  pub filled_next : (ls ls' ls'' : List ℕ) (c : ℕ) (a b : Bool) → FilledAt z rules t ls ls' (λ x. x < c) a → FilledAt z rules t ls' ls'' (λ x. x ≡ c) b
-      → FilledAt z rules t ls ls'' (λ x. x < c + 1) (a || b)
+  pub filled_next : (ls ls' ls'' : List ℕ) (c : ℕ) (a b : Bool) → LengthsFilled z rules t ls ls' (λ x. x < c) a → LengthsFilled z rules t ls' ls'' (λ x. x ≡ c) b
+      → LengthsFilled z rules t ls ls'' (λ x. x < c + 1) (a || b)
   filled_next ls ls' ls'' c a b p q = record {
     filled = filled_more ls ls' ls'' a b p.filled q.filled;
     idle = λ e x l. go e x l (ℕ_discrete x c);
@@ -130,13 +130,13 @@ module _ (z : Size) (rules t : List ℕ) where
       go e x l (yes h) = q.idle (or_right a b e) x h
       go e x l (no h) = rw (same_if b (or_right a b e) q.filled.grown) (p.idle (or_left a b e) x (omega arith))
         where
-          same_if : (b : Bool) → b ≡ false → Grown z ls' ls'' b → ls'' ≡ ls'
+          same_if : (b : Bool) → b ≡ false → MoreKnown z ls' ls'' b → ls'' ≡ ls'
           same_if false e h = h
           same_if true e h = absurd (let k : ◌≡◌ {A = ℕ} 0 1 = cc in omega arith)
 
   -- a sweep goes past an idle cell
-  pub filled_pass : (ls ls' : List ℕ) (c : ℕ) (a : Bool) → FilledAt z rules t ls ls' (λ x. x < c) a → Idle z rules t ls' c
-      → FilledAt z rules t ls ls' (λ x. x < c + 1) a
+  pub filled_pass : (ls ls' : List ℕ) (c : ℕ) (a : Bool) → LengthsFilled z rules t ls ls' (λ x. x < c) a → Idle z rules t ls' c
+      → LengthsFilled z rules t ls ls' (λ x. x < c + 1) a
   filled_pass ls ls' c a p i = record { filled = p.filled; idle = λ e x l. go e x l (ℕ_discrete x c) }
     where
       go : a ≡ false → (x : ℕ) → x < c + 1 → Dec (x ≡ c) → Idle z rules t ls' x
@@ -144,7 +144,7 @@ module _ (z : Size) (rules t : List ℕ) where
       go e x l (no h) = p.idle e x (omega arith)
 
   -- nothing known yet
-  pub known_none : (ls : List ℕ) → count z ≤ length ls → Known z rules t (over (replicate (count z) 0) ls)
+  pub known_none : (ls : List ℕ) → count z ≤ length ls → KnownLengths z rules t (over (replicate (count z) 0) ls)
   known_none ls long = record {
     long = rw (length-fill (count z) 0 ls long) long;
     cell = λ c l. unknown (get_or-fill (count z) 0 ls c l);
@@ -154,3 +154,8 @@ module _ (z : Size) (rules t : List ℕ) where
 pub over_same : (n v : ℕ) (l l' : List ℕ) → drop n l ≡ drop n l' → over (replicate n v) l ≡ over (replicate n v) l'
 unfolding over
 over_same n v l l' e = rw (length-replicate n v, e)
+
+-- a front that is filled
+pub over_front : (n v : ℕ) (l w : List ℕ) → w ≡ replicate n v → w ++ drop n l ≡ over (replicate n v) l
+unfolding over
+over_front n v l w e = rw (length-replicate n v, e) refl

@@ -5,7 +5,7 @@ use Rattle.meaning.specs.Net.{word}
 use Rattle.meaning.specs.Table.{cell, sum}
 use Rattle.meaning.specs.Lengths.{held_sum}
 use Rattle.closure.specs.declared.Size.{Size}
-use Rattle.closure.specs.Passes.{count}
+use Rattle.closure.specs.Sizes.{count}
 
 -- the cells of the two sides of a pair cell c
 abbrev pub left_side : Size → List ℕ → List ℕ → ℕ → ℕ
@@ -33,7 +33,7 @@ pub data KnownCell (z : Size) (rules t ls : List ℕ) (c : ℕ) : Type 0 where
   sides : PairCell t c → get_or ls (left_side z rules t c) 0 ≢ 0 → get_or ls (right_side z rules t c) 0 ≢ 0
       → get_or ls c 0 ≡ held_sum (get_or ls (left_side z rules t c) 0) (get_or ls (right_side z rules t c) 0) → KnownCell z rules t ls c
 
-pub record Known (z : Size) (rules t ls : List ℕ) : Type 0 where
+pub record KnownLengths (z : Size) (rules t ls : List ℕ) : Type 0 where
   pub long : count z ≤ length ls
   pub cell : (c : ℕ) → c < count z → KnownCell z rules t ls c
 
@@ -53,22 +53,22 @@ abbrev pub zeros : List ℕ → ℕ → ℕ
 zeros ls c = sum (λ a. cond (eqb (get_or ls a 0) 0) 1 0) c
 
 -- whether lengths became known
-abbrev pub Grown : Size → List ℕ → List ℕ → Bool → Type 0
-Grown z ls ls' true = zeros ls' (count z) < zeros ls (count z)
-Grown z ls ls' false = ls' ≡ ls
+abbrev pub MoreKnown : Size → List ℕ → List ℕ → Bool → Type 0
+MoreKnown z ls ls' true = zeros ls' (count z) < zeros ls (count z)
+MoreKnown z ls ls' false = ls' ≡ ls
 
 pub record Filled (z : Size) (rules t ls ls' : List ℕ) (moved : Bool) : Type 0 where
-  pub known : Known z rules t ls'
-  pub grown : Grown z ls ls' moved
+  pub known : KnownLengths z rules t ls'
+  pub grown : MoreKnown z ls ls' moved
   pub kept : drop (count z) ls' ≡ drop (count z) ls
 
 -- and at the cells that P asks for nothing is left to do if none did
-pub record FilledAt (z : Size) (rules t ls ls' : List ℕ) (P : ℕ → Type 0) (moved : Bool) : Type 0 where
+pub record LengthsFilled (z : Size) (rules t ls ls' : List ℕ) (P : ℕ → Type 0) (moved : Bool) : Type 0 where
   pub filled : Filled z rules t ls ls' moved
   pub idle : moved ≡ false → (c : ℕ) → P c → Idle z rules t ls' c
 
 -- all that can be known is
 pub record Finished (z : Size) (rules t ls ls' : List ℕ) : Type 0 where
-  pub known : Known z rules t ls'
+  pub known : KnownLengths z rules t ls'
   pub idle : (c : ℕ) → c < count z → Idle z rules t ls' c
   pub kept : drop (count z) ls' ≡ drop (count z) ls

@@ -1,4 +1,4 @@
-// The depth of a table: its largest height.
+// The depth of a table: the largest height of its cells.
 ghost use Rattle.std.specs.Prelude.{◌≡◌, cond, ◌≤◌, length, ltb};
 ghost use Rattle.key.specs.Keys.{EMPTY, height_of};
 ghost use Rattle.meaning.specs.Lengths.{depth};
@@ -9,25 +9,22 @@ use key::Key;
 fn height(word: u64) -> u32
     ensures { result ≡ cond (ltb word EMPTY) (height_of word) 0 }
 {
-    if word == Key::EMPTY {
-        return 0;
+    let key = Key::from(word);
+    if key.is_empty() {
+        0
+    } else {
+        key.split().height
     }
-    let parts = Key { word: word }.split();
-    parts.height
 }
 
+// The largest height of the first n words, 0 if no cell is filled.
 pub(crate) fn depth_of(table: &[u64], n: usize) -> u32
     requires { n ≤ length table.now }
     ensures { result ≡ depth table.now n }
 {
     let mut deep = 0;
-    let mut c = 0;
-    while c < n {
-        let h = height(table[c]);
-        if deep < h {
-            deep = h;
-        }
-        c += 1;
+    for word in &table[..n] {
+        deep = deep.max(height(*word));
     }
     deep
 }

@@ -1,14 +1,12 @@
 // Lengths of a still table: 1 for height 1, the sum of the sides otherwise, held at 4,294,967,295.
 // A length word of 0 means not known yet, since a filled cell's length is at least 1.
-ghost use Rattle.std.specs.Prelude.{◌≡◌, true, ◌||◌, ◌<◌, ◌≤◌, length, replicate};
-ghost use Rattle.words.specs.Tab.{over};
-ghost use Rattle.closure.specs.Passes.{count};
-ghost use Rattle.closure.specs.Fills.{left_side, right_side, PairCell, Linked, Known, Wanted, FilledAt, Finished};
+ghost use Rattle.std.specs.Prelude.{◌≡◌, true, ◌<◌, ◌≤◌, length};
+ghost use Rattle.closure.specs.Sizes.{count};
+ghost use Rattle.closure.specs.Fills.{left_side, right_side, PairCell, Linked, KnownLengths, Wanted, LengthsFilled, Finished};
 
-use crate::Size;
+use crate::passes::Grammar;
 use key::Key;
 use meaning::{cell, held_sum, word};
-use numbers::cells;
 
 // How many levels a fill goes down: enough for nearly every table, and few enough for the stack.
 const LEVELS: u32 = 1000;
@@ -20,83 +18,125 @@ struct Sides {
     right: usize,
 }
 
-fn either(a: bool, b: bool) -> bool
-    ensures { result ≡ (a || b) }
-{
-    a || b
+// A table that the passes leave still: the sides of its pair cells are cells.
+#[derive(Clone, Copy)]
+pub(crate) struct Still<'a> {
+    pub(crate) grammar: Grammar<'a>,
+    pub(crate) table: &'a [u64],
+    pub(crate) ghost linked: { Linked grammar.size grammar.rules.now table.now },
 }
 
-fn sides_of(table: &[u64], z: Size, rules: &[u16], c: usize) -> Sides
-    requires { (c < length table.now) × (0 < z.nodes) }
-    ensures { (result.left ≡ left_side z rules.now table.now c) × (result.right ≡ right_side z rules.now table.now c) }
-{
-    let parts = Key { word: table[c] }.split();
-    let r = parts.rule as usize;
-    let n = z.nodes as usize;
-    let i = (c / n % n) as u16;
-    let j = (c % n) as u16;
-    Sides {
-        left: cell(z.nodes, word(rules, r, 1), i, parts.middle),
-        right: cell(z.nodes, word(rules, r, 2), parts.middle, j),
+impl<'a> Still<'a> {
+    fn sides(&self, c: usize) -> Sides
+        requires { c < length self.now.table.now }
+        ensures { (result.left ≡ left_side self.now.grammar.size self.now.grammar.rules.now self.now.table.now c) × (result.right ≡ right_side self.now.grammar.size self.now.grammar.rules.now self.now.table.now c) }
+    {
+        let parts = Key {
+            word: self.table[c],
+        }
+        .split();
+        let r = parts.rule as usize;
+        let nodes = self.grammar.size.nodes;
+        let n = nodes as usize;
+        let i = (c / n % n) as u16;
+        let j = (c % n) as u16;
+        Sides {
+            left: cell(nodes, word(self.grammar.rules, r, 1), i, parts.middle),
+            right: cell(nodes, word(self.grammar.rules, r, 2), parts.middle, j),
+        }
     }
-}
 
-// Whether a cell's length is wanted: the cell is filled, and its length not known yet.
-fn wanted(table: &[u64], lengths: &[u32], c: usize) -> bool
-    requires { (c < length table.now) × (c < length lengths.now) }
-    ensures { Wanted table.now lengths.now c result }
-{
-    if table[c] == Key::EMPTY {
-        return false;
+    // Whether a cell's length is wanted: the cell is filled, and its length not known yet.
+    fn wanted(&self, lengths: &[u32], c: usize) -> bool
+        requires { (c < length self.now.table.now) × (c < length lengths.now) }
+        ensures { Wanted self.now.table.now lengths.now c result }
+    {
+        !Key::from(self.table[c]).is_empty() && lengths[c] == 0
     }
-    lengths[c] == 0
-}
 
-// The length of a cell, where it is not known and its sides' are. Answers whether it became known.
-fn take(table: &[u64], lengths: &mut [u32], z: Size, rules: &[u16], c: usize) -> bool
-    requires linked { Linked z rules.now table.now }
-    requires known { Known z rules.now table.now lengths.old }
-    requires c_bound { c < count z }
-    ensures { FilledAt z rules.now table.now lengths.old lengths.new (λ x. x ≡ c) result }
-{
-    if !wanted(table, lengths, c) {
-        return false;
+    // The length of a cell, where it is not known and its sides' are. Answers whether it became known.
+    fn take(&self, lengths: &mut [u32], c: usize) -> bool
+        requires known { KnownLengths self.now.grammar.size self.now.grammar.rules.now self.now.table.now lengths.old }
+        requires c_bound { c < count self.now.grammar.size }
+        ensures { LengthsFilled self.now.grammar.size self.now.grammar.rules.now self.now.table.now lengths.old lengths.new (λ x. x ≡ c) result }
+    {
+        if !self.wanted(lengths, c) {
+            return false;
+        }
+        let key = Key {
+            word: self.table[c],
+        }
+        .split();
+        if key.height == 1 {
+            lengths[c] = 1;
+            return true;
+        }
+        let sides = self.sides(c);
+        let left = lengths[sides.left];
+        let right = lengths[sides.right];
+        if left == 0 || right == 0 {
+            return false;
+        }
+        lengths[c] = held_sum(left, right);
+        true
     }
-    let held = table[c];
-    let key = Key { word: held }.split();
-    if key.height == 1 {
-        lengths[c] = 1;
-        return true;
-    }
-    let s = sides_of(table, z, rules, c);
-    let at = s.left;
-    let left = lengths[at];
-    if left == 0 {
-        return false;
-    }
-    let at = s.right;
-    let right = lengths[at];
-    if right == 0 {
-        return false;
-    }
-    lengths[c] = held_sum(left, right);
-    true
-}
 
-// Whether a cell's length waits for those of its sides, with levels left to go down.
-fn deeper(table: &[u64], lengths: &[u32], c: usize, levels: u32) -> bool
-    requires { (c < length table.now) × (c < length lengths.now) }
-    ensures { result ≡ true → PairCell table.now c × (0 < levels) }
-{
-    if !wanted(table, lengths, c) {
-        return false;
+    // Whether a cell's length waits for those of its sides, with levels left to go down.
+    fn deeper(&self, lengths: &[u32], c: usize, levels: u32) -> bool
+        requires { (c < length self.now.table.now) × (c < length lengths.now) }
+        ensures { result ≡ true → PairCell self.now.table.now c × (0 < levels) }
+    {
+        0 < levels
+            && self.wanted(lengths, c)
+            && Key {
+                word: self.table[c],
+            }
+            .split()
+            .height
+                != 1
     }
-    let held = table[c];
-    let key = Key { word: held }.split();
-    if key.height == 1 {
-        return false;
+
+    // The length of a cell, after those of its sides where they are not known, and so on for as many levels.
+    fn fill(&self, lengths: &mut [u32], c: usize, levels: u32) -> bool
+        requires known { KnownLengths self.now.grammar.size self.now.grammar.rules.now self.now.table.now lengths.old }
+        requires c_bound { c < count self.now.grammar.size }
+        ensures { LengthsFilled self.now.grammar.size self.now.grammar.rules.now self.now.table.now lengths.old lengths.new (λ x. x ≡ c) result }
+    {
+        if !self.deeper(lengths, c, levels) {
+            return self.take(lengths, c);
+        }
+        let sides = self.sides(c);
+        let left = self.fill(lengths, sides.left, levels - 1);
+        let more = rest(lengths, sides.left, levels);
+        let right = self.fill(lengths, sides.right, more);
+        let here = self.take(lengths, c);
+        left || right || here
     }
-    0 < levels
+
+    // One sweep over the cells. One that wants no length is passed over before any call, since most cells of a thin table
+    // are empty.
+    fn sweep(&self, lengths: &mut [u32]) -> bool
+        requires known { KnownLengths self.now.grammar.size self.now.grammar.rules.now self.now.table.now lengths.old }
+        ensures { LengthsFilled self.now.grammar.size self.now.grammar.rules.now self.now.table.now lengths.old lengths.new (λ x. x < count self.now.grammar.size) result }
+    {
+        let mut moved = false;
+        for c in 0..self.grammar.size.cells() {
+            if self.wanted(lengths, c) {
+                moved |= self.fill(lengths, c, LEVELS);
+            }
+        }
+        moved
+    }
+
+    // Every length, by sweeps until one finds none. It ends, since every other makes more lengths known; and there are few,
+    // since one sweep reaches LEVELS levels above the lengths that are known.
+    pub(crate) fn fill_all(&self, lengths: &mut [u32])
+        requires { count self.now.grammar.size ≤ length lengths.old }
+        ensures { Finished self.now.grammar.size self.now.grammar.rules.now self.now.table.now lengths.old lengths.new }
+    {
+        lengths[..self.grammar.size.cells()].fill(0);
+        while self.sweep(lengths) {}
+    }
 }
 
 // The levels left for the right side: none where the left side stays unknown, since the cell then waits anyway.
@@ -105,67 +145,5 @@ fn rest(lengths: &[u32], left: usize, levels: u32) -> u32
     requires { (left < length lengths.now) × (0 < levels) }
     ensures { result < levels }
 {
-    if lengths[left] == 0 {
-        return 0;
-    }
-    levels - 1
-}
-
-// The length of a cell, after those of its sides where they are not known, and so on for as many levels.
-fn fill(table: &[u64], lengths: &mut [u32], z: Size, rules: &[u16], c: usize, levels: u32) -> bool
-    requires linked { Linked z rules.now table.now }
-    requires known { Known z rules.now table.now lengths.old }
-    requires c_bound { c < count z }
-    ensures { FilledAt z rules.now table.now lengths.old lengths.new (λ x. x ≡ c) result }
-{
-    if !deeper(table, lengths, c, levels) {
-        return take(table, lengths, z, rules, c);
-    }
-    let s = sides_of(table, z, rules, c);
-    let left = fill(table, lengths, z, rules, s.left, levels - 1);
-    let more = rest(lengths, s.left, levels);
-    let right = fill(table, lengths, z, rules, s.right, more);
-    let here = take(table, lengths, z, rules, c);
-    either(either(left, right), here)
-}
-
-// One sweep over the cells. One that wants no length is passed over before any call, since most cells of a thin table are empty.
-fn sweep(table: &[u64], lengths: &mut [u32], z: Size, rules: &[u16]) -> bool
-    requires linked { Linked z rules.now table.now }
-    requires known { Known z rules.now table.now lengths.old }
-    ensures { FilledAt z rules.now table.now lengths.old lengths.new (λ x. x < count z) result }
-{
-    let n = cells(z.nodes, z.nonterminals);
-    let mut moved = false;
-    let mut c = 0;
-    while c < n {
-        if wanted(table, lengths, c) {
-            moved = either(moved, fill(table, lengths, z, rules, c, LEVELS));
-        }
-        c += 1;
-    }
-    moved
-}
-
-// No length known.
-pub(crate) fn clear(lengths: &mut [u32], n: usize)
-    requires { n ≤ length lengths.old }
-    ensures { lengths.new ≡ over (replicate n 0) lengths.old }
-{
-    let mut c = 0;
-    while c < n {
-        lengths[c] = 0;
-        c += 1;
-    }
-}
-
-// Every length, by sweeps until one finds none. It ends, since every other makes more lengths known; and there are few,
-// since one sweep reaches LEVELS levels above the lengths that are known.
-pub(crate) fn fill_all(table: &[u64], lengths: &mut [u32], z: Size, rules: &[u16])
-    requires linked { Linked z rules.now table.now }
-    requires z_in_bounds { count z ≤ length lengths.old }
-    ensures { Finished z rules.now table.now lengths.old lengths.new }
-{
-    clear(lengths, cells(z.nodes, z.nonterminals));
-    while sweep(table, lengths, z, rules) {}
+    if lengths[left] == 0 { 0 } else { levels - 1 }
 }

@@ -2,29 +2,22 @@
 // `run` is total. Its promise, specs/Runs.antt, settles its answer and every word of both lent slices (proofs/Settled.antt).
 #![tactic(auto)]
 
-ghost use Rattle.std.specs.Prelude.{◌≡◌, ◌≤◌, length, replicate};
-ghost use Rattle.key.specs.Keys.{EMPTY};
-ghost use Rattle.words.specs.Tab.{over};
+ghost use Rattle.std.specs.Prelude.{◌≡◌, length};
 ghost use Rattle.lists.specs.Lists.{net};
+ghost use Rattle.closure.specs.Sizes.{count, RuleInside};
 ghost use Rattle.closure.specs.Runs.{run_check, RunIs};
 
 use crate::depth::depth_of;
-use crate::lengths::{clear, fill_all};
-use crate::passes::settle;
+use crate::lengths::Still;
+use crate::passes::Grammar;
 use lists::check;
 use numbers::{Numbers, cells, room};
-use start::begin;
-use words::{Check, Refusal, and_then};
+use start::{begin, clear};
+use words::Refusal;
 
 mod depth;
 mod lengths;
 mod passes;
-
-#[derive(Clone, Copy)]
-pub enum RunAnswer {
-    Depth(u32),
-    Refused(Refusal),
-}
 
 // The numbers of nodes and nonterminals, once they are known to be small.
 #[derive(Clone, Copy)]
@@ -33,72 +26,55 @@ struct Size {
     nonterminals: u16,
 }
 
-// A pair rule, read once.
+impl Size {
+    fn cells(self) -> usize
+        ensures { result ≡ count self }
+    {
+        cells(self.nodes, self.nonterminals)
+    }
+}
+
+// A pair rule of nonterminals that there are, read once, with its number.
 #[derive(Clone, Copy)]
-struct Pair {
+struct PairRule {
+    size: Size,
     number: u16,
     head: u16,
     left: u16,
     right: u16,
+    ghost inside: { RuleInside size head left right },
 }
 
-// How the passes end: still, or at a cell where a step is too high.
-#[derive(Clone, Copy)]
-enum End {
-    Done,
-    High(usize),
-}
-
-// 5, 4, 7, 8, then 10 for a table and lengths of so many words.
-fn run_check(numbers: Numbers, rules: &[u16], edges: &[u16], table: usize, lengths: usize) -> Check
-    ensures { result ≡ run_check numbers rules.now edges.now table lengths }
-{
-    let c = check(numbers, rules, edges);
-    if let Check::Bad(_) = c {
-        return c;
-    }
-    let want = cells(numbers.nodes as u16, numbers.nonterminals as u16);
-    and_then(room(0, want, table), room(1, want, lengths))
-}
-
-// 12: every cell empty and every length 0.
-fn stop(table: &mut [u64], lengths: &mut [u32], n: usize)
-    requires { (n ≤ length table.old) × (n ≤ length lengths.old) }
-    ensures { (table.new ≡ over (replicate n EMPTY) table.old) × (lengths.new ≡ over (replicate n 0) lengths.old) }
-{
-    start::clear(table, n);
-    clear(lengths, n);
-}
-
-// Document 01: "The run does start, passes until still, and lengths. It answers the depth".
+// Fills the table with the smallest key of each cell, by passes until one moves nothing, and then the lengths. Answers the
+// depth. Refused as the lists are, then where the table, named 0, or the lengths, named 1, have too few words; a step that
+// is too high would end the run with every cell empty and every length 0.
+#[tactic(auto, using(words::proofs::Refusals::refusing, lists::proofs::Right::accepted, crate::proofs::Closing::run_refused), unfolding(crate::specs::Runs::run_check))]
 pub fn run(
     numbers: Numbers,
     rules: &[u16],
     edges: &[u16],
     table: &mut [u64],
     lengths: &mut [u32],
-) -> RunAnswer
+) -> Result<u32, Refusal>
     ensures { RunIs (run_check numbers rules.now edges.now (length table.old) (length lengths.old)) (net numbers rules.now edges.now) table.old lengths.old table.new lengths.new result }
 {
-    let c = run_check(numbers, rules, edges, table.len(), lengths.len());
-    if let Check::Bad(f) = c {
-        return RunAnswer::Refused(f);
-    }
-    let z = Size {
+    check(numbers, rules, edges)?;
+    let size = Size {
         nodes: numbers.nodes as u16,
         nonterminals: numbers.nonterminals as u16,
     };
-    let n = cells(z.nodes, z.nonterminals);
+    let n = size.cells();
+    room(0, n, table.len())?;
+    room(1, n, lengths.len())?;
     let count = (rules.len() / 3) as u16;
-    begin(z.nodes, z.nonterminals, rules, edges, table, count);
-    let end = settle(table, z, rules);
-    if let End::High(at) = end {
-        stop(table, lengths, n);
-        return RunAnswer::Refused(Refusal {
-            number: 12,
-            place: at,
-        });
+    begin(size.nodes, size.nonterminals, rules, edges, table, count);
+    let grammar = Grammar { size, rules };
+    if let Err(refusal) = grammar.settle(table) {
+        clear(table, n);
+        lengths[..n].fill(0);
+        return Err(refusal);
     }
-    fill_all(table, lengths, z, rules);
-    RunAnswer::Depth(depth_of(table, n))
+    let still = Still { grammar, table };
+    still.fill_all(lengths);
+    Ok(depth_of(table, n))
 }

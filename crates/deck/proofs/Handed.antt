@@ -1,30 +1,30 @@
 -- What a deck that passed a stage has, for the stages behind it. Assumes nothing.
 use mathlib.Core.List.{List}
 use mathlib.Core.Bool.{true, ◌&&◌}
-use mathlib.Core.Path.{◌≡◌, ap}
+use mathlib.Core.Path.{◌≡◌}
 use Prim.Native.Nat.{ℕ, ◌*◌, ◌%◌, ◌≤◌, ◌<◌}
 use native.Mathlib.Omega.{arith}
 use lib.ListN.{length}
 use lib.Dec.{leb, ltb, eqb}
-use borrow.Author.Tests.{ltb-true, leb-true, eqb-true}
-use Rattle.words.specs.Refusals.{must, scan}
+use borrow.Author.Tests.{lt-ltb, ltb-true, leb-true, eqb-true}
+use Rattle.words.specs.Refusals.{must, ◌and_then◌, scan, Good}
 use Rattle.words.specs.declared.Refusal.{Refusal}
-use Rattle.words.specs.declared.Check.TheVariants.{Good, Bad}
 use Rattle.words.proofs.First.{first_le}
-use Rattle.words.proofs.Refusals.{both, must_good, and_good, and_stop, and_next, scan_good}
+use Rattle.words.proofs.Refusals.{both, must_good, and_good, and_assoc, and_stop, and_next, scan_good}
+use Rattle.std.specs.Prelude.{Err, Some}
+use Rattle.words.specs.declared.Reason.TheVariants.{WrongSize, WrongNumber, WrongEdge, UnknownKind}
 use Rattle.numbers.specs.Numbers.{in_limits, room_check}
 use Rattle.numbers.proofs.Right.{Between, between_true, room_good}
 use Rattle.deck.specs.Blocks.{blocks, type_of, word_at, first_of, record_at}
 use Rattle.deck.specs.Reads.{header_of, right_size, size_check, frame_check, limit_check, header_check, fill_check, totals_check, entry_check, rule_record_check, entry_of, right_nodes, right_kind, edge_record_check, deck_check, read_check}
-use Rattle.deck.specs.Stages.{sections_of, Handed, Mapped, Known, lists_room}
+use Rattle.deck.specs.Stages.{RightMap, RightEdges, limits_of, label_at, lists_room}
 use Rattle.deck.specs.declared.Header.{Header}
-use Rattle.deck.specs.declared.Sections.{Sections}
 
 pub first_small : (d : List ℕ) (t : ℕ) → length d ≤ 29696 → first_of d t ≤ 58
 unfolding first_of
 first_small d t h = omega (arith, first_le (λ b. leb t (type_of d b)) (blocks d))
 
--- 1 passed
+-- a deck of right size
 pub record Sized (d : List ℕ) : Type 0 where
   pub some : 512 ≤ length d
   pub most : length d ≤ 29696
@@ -32,13 +32,13 @@ pub record Sized (d : List ℕ) : Type 0 where
 pub sized : (d : List ℕ) → size_check d ≡ Good → Sized d
 unfolding size_check
 sized d e =
-    let a = (both (ltb 0 (length d) && eqb (length d % 512) 0) (leb (length d) 29696)).0 ((must_good (right_size d) 1 0).0 e) in
+    let a = (both (ltb 0 (length d) && eqb (length d % 512) 0) (leb (length d) 29696)).0 ((must_good (right_size d) WrongSize 0).0 e) in
     let b = (both (ltb 0 (length d)) (eqb (length d % 512) 0)).0 a.0 in
     let z = ltb-true 0 (length d) b.0 in
     let w = eqb-true (length d % 512) 0 b.1 in
     record { some = omega arith; most = leb-true (length d) 29696 a.1 }
 
--- 4 passed
+-- a header within its limits
 pub record Limited (d : List ℕ) : Type 0 where
   pub nodes : Between 1 64 (word_at d 0 0)
   pub nonterminals : Between 1 32 (word_at d 0 1)
@@ -54,41 +54,34 @@ limited d e =
     let a = (and_good (scan (limit_check d) 6) _).0 e in
     let c = (scan_good (limit_check d) 6).0 a.0 in
     record {
-      nodes = (between_true _ _ _).0 ((must_good _ 4 0).0 (c 0 (omega arith)));
-      nonterminals = (between_true _ _ _).0 ((must_good _ 4 1).0 (c 1 (omega arith)));
-      labels = (between_true _ _ _).0 ((must_good _ 4 2).0 (c 2 (omega arith)));
-      entries = (between_true _ _ _).0 ((must_good _ 4 3).0 (c 3 (omega arith)));
-      rules = (between_true _ _ _).0 ((must_good _ 4 4).0 (c 4 (omega arith)));
-      edges = (between_true _ _ _).0 ((must_good _ 4 5).0 (c 5 (omega arith)));
-      query = ltb-true _ _ ((must_good _ 4 6).0 a.1);
+      nodes = (between_true _ _ _).0 ((must_good _ WrongNumber 0).0 (c 0 (omega arith)));
+      nonterminals = (between_true _ _ _).0 ((must_good _ WrongNumber 1).0 (c 1 (omega arith)));
+      labels = (between_true _ _ _).0 ((must_good _ WrongNumber 2).0 (c 2 (omega arith)));
+      entries = (between_true _ _ _).0 ((must_good _ WrongNumber 3).0 (c 3 (omega arith)));
+      rules = (between_true _ _ _).0 ((must_good _ WrongNumber 4).0 (c 4 (omega arith)));
+      edges = (between_true _ _ _).0 ((must_good _ WrongNumber 5).0 (c 5 (omega arith)));
+      query = ltb-true _ _ ((must_good _ WrongNumber 6).0 a.1);
     }
 
-pub handed :
-    (d : List ℕ) {h : Header} {s : Sections} →
-    size_check d ≡ Good →
-    header_check d ≡ Good →
-    h ≡ header_of d →
-    s ≡ sections_of d →
-    Handed d h s
-handed d {h} {s} z e p q =
-    let l = limited d e in
-    record {
-      placed = record { size = (sized d z).most; sections = q };
-      header = p;
-      entries = omega (arith, ap (λ (h : Header). h.entries) p);
-      rules = omega (arith, ap (λ (h : Header). h.rules) p);
-      edges = omega (arith, ap (λ (h : Header). h.edges) p);
-    }
+-- the limits of the header's numbers, one by one
+pub limits_are : (d : List ℕ) → header_check d ≡ limits_of (header_of d)
+unfolding header_check limits_of scan ◌and_then◌
+limits_are d = simp and_assoc
 
--- 8 and 9 passed
-pub edge_right : (d : List ℕ) → Known d → (e : ℕ) → e < word_at d 0 5 → (right_nodes d e ≡ true) × (right_kind d e ≡ true)
+-- edges that have passed
+pub edge_right : (d : List ℕ) → RightEdges d → (e : ℕ) → e < word_at d 0 5 → (right_nodes d e ≡ true) × (right_kind d e ≡ true)
 unfolding edge_record_check
 edge_right d ok e h =
-    let g = (and_good (must (right_nodes d e) 8 e) (must (right_kind d e) 9 e)).0 ((scan_good (edge_record_check d) (word_at d 0 5)).0 ok e h) in
-    ((must_good (right_nodes d e) 8 e).0 g.0, (must_good (right_kind d e) 9 e).0 g.1)
+    let g = (and_good (must (right_nodes d e) WrongEdge e) (must (right_kind d e) UnknownKind e)).0 ((scan_good (edge_record_check d) (word_at d 0 5)).0 ok e h) in
+    ((must_good (right_nodes d e) WrongEdge e).0 g.0, (must_good (right_kind d e) UnknownKind e).0 g.1)
 
-pub edge_known : (d : List ℕ) → Known d → (e : ℕ) → e < word_at d 0 5 → entry_of d (record_at d 4 e 1) < word_at d 0 3
+pub edge_known : (d : List ℕ) → RightEdges d → (e : ℕ) → e < word_at d 0 5 → entry_of d (record_at d 4 e 1) < word_at d 0 3
 edge_known d ok e h = ltb-true _ _ (edge_right d ok e h).1
+
+-- the label of a right edge's kind
+pub edge_label : (d : List ℕ) → RightEdges d → (e : ℕ) → e < word_at d 0 5 → label_at d (record_at d 4 e 1) ≡ Some (record_at d 2 (entry_of d (record_at d 4 e 1)) 1)
+unfolding label_at
+edge_label d ok e h = rw (lt-ltb _ _ (edge_known d ok e h))
 
 -- all passed but the room
 pub record RightDeck (d : List ℕ) : Type 0 where
@@ -97,9 +90,9 @@ pub record RightDeck (d : List ℕ) : Type 0 where
   pub header : header_check d ≡ Good
   pub fills : scan (fill_check d) (blocks d) ≡ Good
   pub totals : totals_check d ≡ Good
-  pub entries : Mapped d
+  pub entries : RightMap d
   pub rules : scan (rule_record_check d) (word_at d 0 4) ≡ Good
-  pub edges : Known d
+  pub edges : RightEdges d
 
 pub right_deck : (d : List ℕ) → deck_check d ≡ Good → RightDeck d
 unfolding deck_check
@@ -122,9 +115,9 @@ right_deck d e =
       edges = i.1;
     }
 
--- 10 is asked last
+-- the room of the lists is asked last
 module _ (d : List ℕ) (rules edges : ℕ) where
-  pub read_stop : {r : Refusal} → deck_check d ≡ Bad r → read_check d rules edges ≡ Bad r
+  pub read_stop : {r : Refusal} → deck_check d ≡ Err r → read_check d rules edges ≡ Err r
   unfolding read_check
   read_stop e = and_stop _ e
 

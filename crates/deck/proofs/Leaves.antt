@@ -5,17 +5,15 @@ use Prim.Native.Nat.{ℕ, ◌*◌, ◌≤◌, ◌<◌}
 use native.Mathlib.Omega.{arith}
 use lib.ListN.{length, take}
 use Rattle.words.specs.declared.Refusal.{Refusal}
-use Rattle.words.specs.declared.Check.{Check}
-use Rattle.words.specs.declared.Check.TheVariants.{Good, Bad}
 use Rattle.words.proofs.Tab.{over_fits, take-over}
 use Rattle.words.proofs.Refusals.{and_good}
+use Rattle.words.specs.Refusals.{Check, Good}
+use Rattle.std.specs.Prelude.{Result, Ok, Err}
 use Rattle.lists.specs.Lists.{lists_check}
 use Rattle.numbers.proofs.Right.{room_good}
 use Rattle.deck.specs.declared.Header.{Header}
-use Rattle.deck.specs.declared.ReadAnswer.{ReadAnswer}
-use Rattle.deck.specs.declared.ReadAnswer.TheVariants.{Read, Refused}
 use Rattle.deck.specs.Blocks.{word_at}
-use Rattle.deck.specs.Reads.{header_of, numbers_in, deck_check, read_check, rules_of, edges_of, answered, written}
+use Rattle.deck.specs.Reads.{header_of, numbers_in, deck_check, read_check, rules_of, edges_of, header_if, written}
 use Rattle.deck.proofs.Handed.{right_deck, limited, read_stop, read_next}
 use Rattle.deck.proofs.Lists.{length_rules, length_edges, accepted_lists}
 
@@ -33,21 +31,21 @@ pub record ReadIs (d : List ℕ) (h : Header) (rules edges : List ℕ) : Type 0 
   pub query : h.query < h.nonterminals
 
 module _ (d : List ℕ) where
-  read_good : (c : Check) {h : Header} → answered c d ≡ Read h → (c ≡ Good) × (h ≡ header_of d)
-  read_good Good e = (refl, cc)
-  read_good (Bad r) {h} e = let z : ◌≡◌ {A = ℕ} 0 1 = cc in absurd (omega arith)
+  read_good : (c : Check) {h : Header} → header_if c d ≡ Ok h → (c ≡ Good) × (h ≡ header_of d)
+  read_good (Ok tt) e = (refl, cc)
+  read_good (Err r) {h} e = let z : ◌≡◌ {A = ℕ} 0 1 = cc in absurd (omega arith)
 
-  pub read_bad : (c : Check) {r : Refusal} → answered c d ≡ Refused r → c ≡ Bad r
-  read_bad Good {r} e = let z : ◌≡◌ {A = ℕ} 0 1 = cc in absurd (omega arith)
-  read_bad (Bad s) e = ap Bad cc
+  pub read_bad : (c : Check) {r : Refusal} → header_if c d ≡ Err r → c ≡ Err r
+  read_bad (Ok tt) {r} e = let z : ◌≡◌ {A = ℕ} 0 1 = cc in absurd (omega arith)
+  read_bad (Err s) e = ap Err cc
 
-  -- what `read` promises, where it answers `Read`
+  -- what `read` promises, where it accepts
   pub read_is :
-      (rs es : List ℕ) {a : ReadAnswer} {h : Header} {rs' es' : List ℕ} →
-      a ≡ answered (read_check d (length rs) (length es)) d →
+      (rs es : List ℕ) {a : Result Header Refusal} {h : Header} {rs' es' : List ℕ} →
+      a ≡ header_if (read_check d (length rs) (length es)) d →
       rs' ≡ written (read_check d (length rs) (length es)) (rules_of d) rs →
       es' ≡ written (read_check d (length rs) (length es)) (edges_of d) es →
-      a ≡ Read h →
+      a ≡ Ok h →
       ReadIs d h rs' es'
   unfolding read_check
   read_is rs es answer r s e =
@@ -74,9 +72,9 @@ module _ (d : List ℕ) where
   read_deck = go (deck_check d) refl
     where
       go : (c : Check) → deck_check d ≡ c → read_check d 768 12288 ≡ deck_check d
-      go Good e =
+      go (Ok tt) e =
           let l = limited d (right_deck d e).header in
           let rules : 3 * word_at d 0 4 ≤ 768 = omega (arith, l.rules.high) in
           let edges : 3 * word_at d 0 5 ≤ 12288 = omega (arith, l.edges.high) in
           read_next d 768 12288 e ∙ (and_good _ _).1 ((room_good _ _ _).1 rules, (room_good _ _ _).1 edges) ∙ sym e
-      go (Bad r) e = read_stop d 768 12288 e ∙ sym e
+      go (Err r) e = read_stop d 768 12288 e ∙ sym e

@@ -6,14 +6,15 @@ use native.Mathlib.Omega.{arith}
 use lib.ListN.{length}
 use lib.Dec.{ltb}
 use borrow.Author.Tests.{ltb-true}
-use Rattle.words.specs.declared.Check.TheVariants.{Good}
 use Rattle.words.proofs.Tab.{length-tab, get_or-tab}
 use Rattle.words.proofs.Refusals.{both, must_good, scan_good}
+use Rattle.words.specs.Refusals.{Good}
+use Rattle.words.specs.declared.Reason.TheVariants.{WrongRule}
 use Rattle.meaning.specs.Net.{word}
 use Rattle.lists.specs.Lists.{lists_check}
 use Rattle.lists.proofs.Right.{RuleIn, right_rule_lem, EdgeIn, RightLists, accepting}
 use Rattle.deck.specs.Blocks.{word_at, record_at}
-use Rattle.deck.specs.Reads.{numbers_of, rule_record_check, entry_of, rules_of, edge_word, edges_of, deck_check}
+use Rattle.deck.specs.Reads.{deck_numbers, rule_record_check, entry_of, rules_of, edge_word, edges_of, deck_check}
 use Rattle.deck.proofs.Handed.{limited, RightDeck, edge_right, edge_known, right_deck}
 use Rattle.deck.proofs.Map.{label_in}
 
@@ -42,13 +43,13 @@ module _ (d : List ℕ) where
       get_or-tab _ _ (3 * e + k) (omega arith) ∙ rw (q, m)
 
 module _ (d : List ℕ) (ok : RightDeck d) where
-  rule_in_lem : (r : ℕ) → r < word_at d 0 4 → RuleIn (numbers_of d) (word (rules_of d) r 0) (word (rules_of d) r 1) (word (rules_of d) r 2)
+  rule_in_lem : (r : ℕ) → r < word_at d 0 4 → RuleIn (deck_numbers d) (word (rules_of d) r 0) (word (rules_of d) r 1) (word (rules_of d) r 2)
   unfolding rule_record_check
   rule_in_lem r h =
       rw (rule_word d r 0 h (omega arith), rule_word d r 1 h (omega arith), rule_word d r 2 h (omega arith))
-      ((right_rule_lem (numbers_of d) _ _ _).0 ((must_good _ 7 r).0 ((scan_good (rule_record_check d) _).0 ok.rules r h)))
+      ((right_rule_lem (deck_numbers d) _ _ _).0 ((must_good _ WrongRule r).0 ((scan_good (rule_record_check d) _).0 ok.rules r h)))
 
-  edge_in : (e : ℕ) → e < word_at d 0 5 → EdgeIn (numbers_of d) (word (edges_of d) e 0) (word (edges_of d) e 1) (word (edges_of d) e 2)
+  edge_in : (e : ℕ) → e < word_at d 0 5 → EdgeIn (deck_numbers d) (word (edges_of d) e 0) (word (edges_of d) e 1) (word (edges_of d) e 2)
   edge_in e h =
       let n = (both (ltb (record_at d 4 e 0) (word_at d 0 0)) (ltb (record_at d 4 e 2) (word_at d 0 0))).0 (edge_right d ok.edges e h).0 in
       rw (edge_word_lem d e 0 h (omega arith), edge_word_lem d e 1 h (omega arith), edge_word_lem d e 2 h (omega arith))
@@ -58,7 +59,7 @@ module _ (d : List ℕ) (ok : RightDeck d) where
         to = ltb-true _ _ n.1;
       })
 
-  right_lists : RightLists (numbers_of d) (rules_of d) (edges_of d)
+  right_lists : RightLists (deck_numbers d) (rules_of d) (edges_of d)
   right_lists =
       let l = limited d ok.header in
       let n = length_rules d in
@@ -75,5 +76,5 @@ module _ (d : List ℕ) (ok : RightDeck d) where
         edge = λ e h. edge_in e (omega arith);
       }
 
-pub accepted_lists : (d : List ℕ) → deck_check d ≡ Good → lists_check (numbers_of d) (rules_of d) (edges_of d) ≡ Good
+pub accepted_lists : (d : List ℕ) → deck_check d ≡ Good → lists_check (deck_numbers d) (rules_of d) (edges_of d) ≡ Good
 accepted_lists d e = accepting _ _ _ (right_lists d (right_deck d e))

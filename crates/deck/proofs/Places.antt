@@ -9,10 +9,11 @@ use native.Mathlib.Omega.{arith}
 use lib.Dec.{eqb, leb, ltb}
 use borrow.Author.Tests.{eqb-true, eqb-false, eq-eqb, ne_eqb, leb-true, leb-false, le-leb, ltb-true, ltb-false}
 use borrow.Table.Steps.{cases}
-use Rattle.words.specs.declared.Check.TheVariants.{Good}
 use Rattle.words.specs.First.{first}
 use Rattle.words.proofs.First.{first_here, first_none, first_lowest}
 use Rattle.words.proofs.Refusals.{both, must_good, scan_good}
+use Rattle.words.specs.Refusals.{Good}
+use Rattle.words.specs.declared.Reason.TheVariants.{WrongCount}
 use Rattle.numbers.specs.Numbers.{between}
 use Rattle.numbers.proofs.Right.{Between, between_true}
 use Rattle.deck.specs.Blocks.{blocks, type_of, used_of, word_at, zeros_from, right_records, total, first_of}
@@ -36,7 +37,7 @@ module _ (d : List ℕ) (ok : RightDeck d) where
   frame : (b : ℕ) → b < blocks d → Framed d b
   frame b h = framed d b ((scan_good (frame_check d) _).0 ok.frames b h)
 
-  -- "Types never fall from block to block"
+  -- types never fall
   types_rise : (i j : ℕ) → i ≤ j → j < blocks d → type_of d i ≤ type_of d j
   types_rise i zero l h = let z : i ≡ 0 = omega arith in rw z (le_refl (type_of d 0))
   types_rise i (suc j) l h =
@@ -48,7 +49,7 @@ module _ (d : List ℕ) (ok : RightDeck d) where
   totals_are : (t : ℕ) → Between 2 4 t → total d t (blocks d) ≡ word_at d 0 (t + 1)
   unfolding totals_check
   totals_are t h =
-      let e = (must_good (right_totals d) 5 0).0 ok.totals in
+      let e = (must_good (right_totals d) WrongCount 0).0 ok.totals in
       let c = (both _ _).0 e in
       let a = (both _ _).0 c.0 in
       cases (eqb t 2)
@@ -61,13 +62,13 @@ module _ (d : List ℕ) (ok : RightDeck d) where
     right_records_lem : right_records d b ≡ true
     right_records_lem =
         let f = (scan_good (fill_check d) _).0 ok.fills b h in
-        let g = (must_good (right_fill d b) 5 b).0 (sym (fill_is d b (frame b h)) ∙ f) in
+        let g = (must_good (right_fill d b) WrongCount b).0 (sym (fill_is d b (frame b h)) ∙ f) in
         rw (ne_eqb (type_of d b) 1 (λ e. omega arith)) at g
 
     at_most : used_of d b ≤ 84
     at_most = ((between_true 1 84 (used_of d b)).0 ((both _ _).0 ((both _ _).0 right_records_lem).0).0).high
 
-    -- "Only the last block of a type may be part full"
+    -- a block that is not the last of its type is full
     full : b + 1 < blocks d → type_of d (b + 1) ≡ type_of d b → used_of d b ≡ 84
     full l same =
         let p = ((both (between 1 84 (used_of d b)) _).0 ((both _ (zeros_from d b (3 * used_of d b))).0 right_records_lem).0).1 in

@@ -1,4 +1,4 @@
--- 9 "edge kind not in the map" given exactly when. Assumes nothing.
+-- UnknownKind given exactly when. Assumes nothing.
 use mathlib.Core.List.{List}
 use mathlib.Core.Bool.{Bool, true, false}
 use mathlib.Core.Path.{◌≡◌, sym, ◌∙◌}
@@ -8,17 +8,16 @@ use native.Mathlib.Nat.{le_antisymm}
 use native.Mathlib.Omega.{arith}
 use lib.Dec.{eqb, ltb}
 use borrow.Author.Tests.{ltb-true, ltb-false, lt-ltb, le-ltb, eqb-true, eqb-false, eq-eqb, ne_eqb}
-use Rattle.words.specs.declared.Check.{Check}
-use Rattle.words.specs.declared.Check.TheVariants.{Good}
-use Rattle.words.specs.Refusals.{refused, ◌and_then◌, scan}
+use Rattle.words.specs.Refusals.{refused, ◌and_then◌, scan, Check, Good}
 use Rattle.words.specs.First.{first}
 use Rattle.words.proofs.First.{first_le, first_here, first_end, first_lowest}
 use Rattle.words.proofs.Refusals.{both, and_assoc}
+use Rattle.words.specs.declared.Reason.TheVariants.{UnknownKind}
 use Rattle.deck.specs.Blocks.{blocks, word_at, record_at}
 use Rattle.deck.specs.Reads.{size_check, frame_check, header_check, fill_check, totals_check, entry_check, rule_record_check, entry_of, right_nodes, right_kind, read_check}
 use Rattle.deck.proofs.Given.{up_to, and_unit, given_9}
 
--- "the deck is right up to there": 1 to 7 are not given
+-- the deck is right up to its edges
 unfoldable pub up_to_edges : List ℕ → Check
 up_to_edges d =
     size_check d
@@ -29,7 +28,7 @@ up_to_edges d =
     and_then scan (entry_check d) (word_at d 0 3)
     and_then scan (rule_record_check d) (word_at d 0 4)
 
--- "edge node out of range" does not hold of edge e
+-- the nodes of edge e are in range
 pub record NodesIn (d : List ℕ) (e : ℕ) : Type 0 where
   pub from : record_at d 4 e 0 < word_at d 0 0
   pub to : record_at d 4 e 2 < word_at d 0 0
@@ -41,7 +40,7 @@ pub record InMap (d : List ℕ) (e : ℕ) : Type 0 where
   pub is : record_at d 2 entry 0 ≡ record_at d 4 e 1
 
 -- e is the lowest edge that is not right, its nodes are right, and its kind is in no map entry
-pub record UnknownKind (d : List ℕ) (e : ℕ) : Type 0 where
+pub record UnmappedEdge (d : List ℕ) (e : ℕ) : Type 0 where
   pub before : up_to_edges d ≡ Good
   pub edge : e < word_at d 0 5
   pub rest : (i : ℕ) → i < e → NodesIn d i × InMap d i
@@ -82,10 +81,10 @@ module _ (d : List ℕ) where
         λ no. le-ltb (first p n) n (omega (arith, (first_end p n).1 (λ m h. ne_eqb _ _ (no m h)))),
       )
 
-pub unknown_kind : (d : List ℕ) (rules edges e : ℕ) → (read_check d rules edges ≡ refused 9 e) ↔ UnknownKind d e
+pub unknown_kind : (d : List ℕ) (rules edges e : ℕ) → (read_check d rules edges ≡ refused UnknownKind e) ↔ UnmappedEdge d e
 unknown_kind d rules edges e = (there, back)
   where
-    there : read_check d rules edges ≡ refused 9 e → UnknownKind d e
+    there : read_check d rules edges ≡ refused UnknownKind e → UnmappedEdge d e
     there q =
         let g = (given_9 d rules edges e).0 q in
         let f = g.1 in
@@ -97,7 +96,7 @@ unknown_kind d rules edges e = (there, back)
           unknown = (not_in_map d e).0 f.fault.1;
         }
 
-    back : UnknownKind d e → read_check d rules edges ≡ refused 9 e
+    back : UnmappedEdge d e → read_check d rules edges ≡ refused UnknownKind e
     back u =
         (given_9 d rules edges e).1 (
           up_to_lem d ∙ u.before,

@@ -1,3 +1,4 @@
 pub mod Blocks
+pub mod Readers
 pub mod Reads
 pub mod Stages

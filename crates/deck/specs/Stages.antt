@@ -1,68 +1,56 @@
--- What the reader's stages hand on: the header's numbers and where each type's records begin. Assumes nothing.
-use Rattle.std.specs.Prelude.{List, cond, ◌≡◌, ℕ, suc, ◌*◌, ◌≤◌, ◌<◌, length, get_or, ltb}
-use Rattle.words.specs.declared.Check.{Check}
-use Rattle.words.specs.declared.Check.TheVariants.{Good}
-use Rattle.words.specs.First.{first}
-use Rattle.words.specs.Refusals.{◌and_then◌, scan}
-use Rattle.numbers.specs.Numbers.{room_check}
-use Rattle.deck.specs.Blocks.{blocks, word_at, first_of, record_at}
-use Rattle.deck.specs.Reads.{header_of, fill_check, totals_check, entry_check, rule_record_check, entry_of, edge_record_check}
+-- What the reader's stages hand on: the header's numbers, where each type's records begin, and the map's kinds. Assumes nothing.
+use Rattle.std.specs.Prelude.{List, cond, ◌≡◌, ℕ, ◌*◌, ◌<◌, get_or, ltb, Option, Some, None}
+use Rattle.words.specs.Tab.{tab, over}
+use Rattle.words.specs.Refusals.{Check, Good, must, ◌and_then◌, scan}
+use Rattle.words.specs.declared.Reason.TheVariants.{WrongNumber}
+use Rattle.numbers.specs.Numbers.{in_limits, room_check}
+use Rattle.deck.specs.Blocks.{word_at, first_of, record_at}
+use Rattle.deck.specs.Reads.{entry_check, rule_record_check, entry_of, edge_record_check}
 use Rattle.deck.specs.declared.Header.{Header}
 use Rattle.deck.specs.declared.Sections.{Sections}
-use Rattle.deck.specs.declared.Found.{Found}
-use Rattle.deck.specs.declared.Found.TheVariants.{Label, Nothing}
 
--- the first blocks of the map, the rules and the edges
+-- the header's numbers are within their limits, asked number by number
+unfoldable pub limits_of : Header → Check
+limits_of h =
+    must (in_limits 0 h.nodes) WrongNumber 0
+    and_then must (in_limits 1 h.nonterminals) WrongNumber 1
+    and_then must (in_limits 2 h.labels) WrongNumber 2
+    and_then must (in_limits 3 h.entries) WrongNumber 3
+    and_then must (in_limits 4 h.rules) WrongNumber 4
+    and_then must (in_limits 5 h.edges) WrongNumber 5
+    and_then must (ltb h.query h.nonterminals) WrongNumber 6
+
+-- the first blocks of each type
 abbrev pub sections_of : List ℕ → Sections
-sections_of d = record { map = first_of d 2; rules = first_of d 3; edges = first_of d 4 }
-
--- s is where d's sections begin, and d is so small that no position wraps
-pub record Placed (d : List ℕ) (s : Sections) : Type 0 where
-  pub size : length d ≤ 29696
-  pub sections : s ≡ sections_of d
-
--- h is d's header besides, and its counts are within their limits
-pub record Handed (d : List ℕ) (h : Header) (s : Sections) : Type 0 where
-  pub placed : Placed d s
-  pub header : h ≡ header_of d
-  pub entries : h.entries ≤ 256
-  pub rules : h.rules ≤ 256
-  pub edges : h.edges ≤ 4096
+sections_of d = record { header = first_of d 1; map = first_of d 2; rules = first_of d 3; edges = first_of d 4 }
 
 -- every map entry is right
-abbrev pub Mapped : List ℕ → Type 0
-Mapped d = scan (entry_check d) (word_at d 0 3) ≡ Good
+abbrev pub RightMap : List ℕ → Type 0
+RightMap d = scan (entry_check d) (word_at d 0 3) ≡ Good
 
 -- every edge is right
-abbrev pub Known : List ℕ → Type 0
-Known d = scan (edge_record_check d) (word_at d 0 5) ≡ Good
+abbrev pub RightEdges : List ℕ → Type 0
+RightEdges d = scan (edge_record_check d) (word_at d 0 5) ≡ Good
 
 -- l begins with the map's kinds, side by side
-abbrev pub Kinds : List ℕ → List ℕ → Type 0
-Kinds d l = (m : ℕ) → m < word_at d 0 3 → get_or l m 0 ≡ record_at d 2 m 0
+abbrev pub HoldsKinds : List ℕ → List ℕ → Type 0
+HoldsKinds d l = (m : ℕ) → m < word_at d 0 3 → get_or l m 0 ≡ record_at d 2 m 0
 
--- the first n kinds of l rise strictly
-abbrev pub Rising : List ℕ → ℕ → Type 0
-Rising l n = (m : ℕ) → suc m < n → get_or l m 0 < get_or l (suc m) 0
+-- the label of the map entry that has this kind, if one has it
+unfoldable pub label_at : List ℕ → ℕ → Option ℕ
+label_at d kind = cond (ltb (entry_of d kind) (word_at d 0 3)) (Some (record_at d 2 (entry_of d kind) 1)) None
 
--- the first of n kinds that is above this one: those before it are not
-unfoldable pub upper_of : List ℕ → ℕ → ℕ → ℕ
-upper_of l n kind = first (λ m. ltb kind (get_or l m 0)) n
+-- the first n words of a list are f 0, .., f (n - 1), for each f that the calls of a closure answer as
+abbrev pub FrontIs : (ℕ → ℕ → Type 0) → ℕ → List ℕ → List ℕ → Type 0
+FrontIs post n old new = (f : ℕ → ℕ) → ((k x : ℕ) → k < n → post k x → x ≡ f k) → new ≡ over (tab f n) old
 
--- the label of the map entry that has this kind, or that none has it
-unfoldable pub found_of : List ℕ → ℕ → Found
-found_of d kind = cond (ltb (entry_of d kind) (word_at d 0 3)) (Label (record_at d 2 (entry_of d kind) 1)) Nothing
+-- the two lent lists have room, behind the deck's own checks
+abbrev pub lists_room : Header → ℕ → ℕ → Check
+lists_room h rules edges = room_check 3 (3 * h.rules) rules and_then room_check 4 (3 * h.edges) edges
 
--- the checks from 6 on, and from 5 on
+-- the checks of the records: the map's, the rules', then edge by edge
 abbrev pub records_check : List ℕ → Check
 records_check d =
     scan (entry_check d) (word_at d 0 3)
     and_then scan (rule_record_check d) (word_at d 0 4)
     and_then scan (edge_record_check d) (word_at d 0 5)
-
-abbrev pub filled_check : List ℕ → Check
-filled_check d = scan (fill_check d) (blocks d) and_then totals_check d and_then records_check d
-
--- 10, behind the deck's own checks
-abbrev pub lists_room : Header → ℕ → ℕ → Check
-lists_room h rules edges = room_check 3 (3 * h.rules) rules and_then room_check 4 (3 * h.edges) edges

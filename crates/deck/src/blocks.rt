@@ -1,303 +1,204 @@
-// Blocks: their check, their order, the header's numbers and how they are filled. Refusals 2 to 5.
-ghost use Rattle.std.specs.Prelude.{◌≡◌, ◌+◌, ◌*◌, ◌≤◌, ◌<◌, length};
-ghost use Rattle.words.specs.Refusals.{scan};
-ghost use Rattle.deck.specs.Blocks.{type_of, used_of, sum_at, right_sum, right_type, right_order, word_at, zeros_from, last_of_type, right_header, right_records, records_in, total as total_of, first_of};
-ghost use Rattle.deck.specs.Reads.{header_of, frame_check, limit_check, header_check, fill_check, right_totals, totals_check};
-ghost use Rattle.deck.specs.Stages.{sections_of};
+// Blocks: their sum and order, what they hold, the header's numbers, and where the records of a type begin.
+ghost use Rattle.std.specs.Prelude.{◌≡◌, ◌==◌, ◌+◌, ◌*◌, ◌-◌, ◌≤◌, ◌<◌, length, sum};
+ghost use Rattle.std.specs.List.{list_all};
+ghost use Rattle.words.specs.Refusals.{scan, Good};
+ghost use Rattle.deck.specs.Blocks.{blocks, type_number, right_sum, right_type, right_order, zeros_from, last_of_type, right_header, right_records, type_of, total as total_of, first_of};
+ghost use Rattle.deck.specs.Reads.{header_of, frame_check, fill_check};
+ghost use Rattle.deck.specs.Readers.{CanAskEach, EachIs};
+ghost use Rattle.deck.specs.Stages.{limits_of, sections_of};
 
-use crate::reader::block;
+use crate::reader::{
+    BLOCK_BYTES, BLOCK_RECORDS, Block, BlockType, RECORD_WORDS, Reader, SUM_AT, WORDS_AT,
+};
 use crate::{Header, Sections};
 use numbers::in_limits;
-use words::{Check, and_then, must, read16, read32};
+use words::{Reason, Refusal, must, read};
 
-fn wide(x: u8) -> usize
-    ensures { (result ≡ x) × (result < 256) }
+// The records that a header uses.
+const HEADER_RECORDS: usize = 3;
+
+// The words of them that may be other than zero.
+const HEADER_WORDS: usize = 7;
+
+fn sum_of(bytes: &[u8]) -> usize
+    requires { length bytes.now ≤ 508 }
+    ensures { result ≡ sum bytes.now }
 {
-    x as usize
+    bytes.iter().map(|b| usize::from(*b)).sum()
 }
 
-// The sum of the n bytes from p on.
-fn byte_sum(deck: &[u8], p: usize, n: usize) -> usize
-    requires { (p + n ≤ length deck.now) × (n ≤ 508) }
-    ensures { result ≡ sum_at n deck.now p }
+fn are_zero(bytes: &[u8]) -> bool
+    ensures { result ≡ list_all (λ b. b == 0) bytes.now }
 {
-    let mut sum = 0;
-    let mut i = 0;
-    while i < n {
-        sum += wide(deck[p + i]);
-        i += 1;
+    bytes.iter().all(|b| *b == 0)
+}
+
+impl<'a> Block<'a> {
+    fn has_right_sum(&self) -> bool
+        ensures { result ≡ right_sum self.now.deck.now self.now.position }
+    {
+        let start = self.position * BLOCK_BYTES;
+        let sum = sum_of(&self.deck[start..start + SUM_AT]);
+        sum == read::<u32>(self.deck, start + SUM_AT) as usize
     }
-    sum
-}
 
-fn type_of(deck: &[u8], b: usize) -> u8
-    requires { b * 512 + 512 ≤ length deck.now }
-    ensures { result ≡ type_of deck.now b }
-{
-    deck[b * 512]
-}
-
-fn used_of(deck: &[u8], b: usize) -> usize
-    requires { b * 512 + 512 ≤ length deck.now }
-    ensures { (result ≡ used_of deck.now b) × (result < 256) }
-{
-    wide(deck[b * 512 + 1])
-}
-
-fn word_at(deck: &[u8], b: usize, w: usize) -> usize
-    requires { (b * 512 + 512 ≤ length deck.now) × (w < 252) }
-    ensures { result ≡ word_at deck.now b w }
-{
-    read16(deck, b * 512 + 4 + 2 * w) as usize
-}
-
-fn right_sum(deck: &[u8], b: usize) -> bool
-    requires { b * 512 + 512 ≤ length deck.now }
-    ensures { result ≡ right_sum deck.now b }
-{
-    let p = b * 512;
-    byte_sum(deck, p, 508) == read32(deck, p + 508) as usize
-}
-
-fn right_type(deck: &[u8], b: usize) -> bool
-    requires { b * 512 + 512 ≤ length deck.now }
-    ensures { result ≡ right_type deck.now b }
-{
-    let kind = type_of(deck, b);
-    if b == 0 {
-        return kind == 1;
-    }
-    if kind < 2 {
-        return false;
-    }
-    if 4 < kind {
-        return false;
-    }
-    type_of(deck, b - 1) <= kind
-}
-
-fn right_order(deck: &[u8], b: usize) -> bool
-    requires { b * 512 + 512 ≤ length deck.now }
-    ensures { result ≡ right_order deck.now b }
-{
-    let number = read16(deck, b * 512 + 2) as usize;
-    if number != b {
-        return false;
-    }
-    right_type(deck, b)
-}
-
-pub(crate) fn frame(deck: &[u8], b: usize) -> Check
-    requires { b * 512 + 512 ≤ length deck.now }
-    ensures { result ≡ frame_check deck.now b }
-{
-    and_then(
-        must(right_sum(deck, b), 2, b),
-        must(right_order(deck, b), 3, b),
-    )
-}
-
-// Block by block, 2 before 3.
-pub(crate) fn frames(deck: &[u8], n: usize) -> Check
-    requires { n * 512 ≤ length deck.now }
-    ensures { result ≡ scan (frame_check deck.now) n }
-{
-    let mut b = 0;
-    while b < n {
-        let c = block(deck, b);
-        if let Check::Bad(_) = c {
-            return c;
+    // Block 0 alone is a header, and types never fall; a byte that names no type breaks the order too.
+    fn has_right_type(&self) -> bool
+        ensures { result ≡ right_type self.now.deck.now self.now.position }
+    {
+        match BlockType::try_from(self.type_byte()) {
+            Ok(BlockType::Header) => self.position == 0,
+            Ok(kind) => self.position != 0
+                && self.at(self.position - 1).type_byte() <= u8::from(kind),
+            Err(_) => false,
         }
-        b += 1;
     }
-    Check::Good
+
+    #[tactic(auto, unfolding(crate::specs::Blocks::right_order))]
+    fn has_right_order(&self) -> bool
+        ensures { result ≡ right_order self.now.deck.now self.now.position }
+    {
+        self.stated_number() == self.position && self.has_right_type()
+    }
+
+    // The block's sum, then its order.
+    #[tactic(auto, using(words::proofs::Refusals::refusing))]
+    pub(crate) fn frame(&self) -> Result<(), Refusal>
+        ensures { result ≡ frame_check self.now.deck.now self.now.position }
+    {
+        must(self.has_right_sum(), Reason::WrongSum, self.position)?;
+        must(self.has_right_order(), Reason::WrongOrder, self.position)
+    }
+
+    // Its words from one on, and whatever stands behind them, are zero.
+    fn has_zeros_from(&self, w: usize) -> bool
+        requires { w ≤ 252 }
+        ensures { result ≡ zeros_from self.now.deck.now self.now.position w }
+    {
+        let start = self.position * BLOCK_BYTES;
+        are_zero(&self.deck[start + WORDS_AT + 2 * w..start + SUM_AT])
+    }
+
+    fn is_last_of_type(&self) -> bool
+        ensures { result ≡ last_of_type self.now.deck.now self.now.position }
+    {
+        let next = self.position + 1;
+        next == self.deck.len() / BLOCK_BYTES || self.at(next).type_byte() != self.type_byte()
+    }
+
+    fn has_right_header(&self) -> bool
+        ensures { result ≡ right_header self.now.deck.now self.now.position }
+    {
+        self.used() == HEADER_RECORDS && self.has_zeros_from(HEADER_WORDS)
+    }
+
+    fn has_right_records(&self) -> bool
+        ensures { result ≡ right_records self.now.deck.now self.now.position }
+    {
+        let used = self.used();
+        (1..=BLOCK_RECORDS).contains(&used)
+            && (used == BLOCK_RECORDS || self.is_last_of_type())
+            && self.has_zeros_from(RECORD_WORDS * used)
+    }
+
+    // The type of a block whose order is right.
+    fn kind(&self) -> BlockType
+        requires { frame_check self.now.deck.now self.now.position ≡ Good }
+        ensures { type_number result ≡ type_of self.now.deck.now self.now.position }
+    {
+        BlockType::try_from(self.type_byte()).unwrap()
+    }
+
+    // The type selects the check of the block's records: a byte that names none was refused with the order.
+    #[tactic(auto, unfolding(crate::specs::Reads::fill_check))]
+    pub(crate) fn fill(&self) -> Result<(), Refusal>
+        requires { frame_check self.now.deck.now self.now.position ≡ Good }
+        ensures { result ≡ fill_check self.now.deck.now self.now.position }
+    {
+        let kind = self.kind();
+        let right = match kind {
+            BlockType::Header => self.has_right_header(),
+            BlockType::Map | BlockType::Rules | BlockType::Edges => self.has_right_records(),
+        };
+        must(right, Reason::WrongCount, self.position)
+    }
 }
 
-pub(crate) fn read_header(deck: &[u8]) -> Header
+// A check of block after block, as the reader hands them out: of several refusals, the one of the first block.
+pub(crate) fn each<F: Fn(Block) -> Result<(), Refusal>>(
+    deck: &[u8],
+    check: F,
+) -> Result<(), Refusal>
+    requires { CanAskEach (λ block. F.pre check block) deck.now }
+    ensures { EachIs (λ block r. F.post check block r) deck.now result }
+{
+    for block in Reader::open(deck) {
+        check(block)?;
+    }
+    Ok(())
+}
+
+#[tactic(auto, using(words::proofs::Refusals::refusing), unfolding(crate::specs::Stages::limits_of))]
+pub(crate) fn limits(header: Header) -> Result<(), Refusal>
+    ensures { result ≡ limits_of header }
+{
+    must(in_limits(0, header.nodes), Reason::WrongNumber, 0)?;
+    must(in_limits(1, header.nonterminals), Reason::WrongNumber, 1)?;
+    must(in_limits(2, header.labels), Reason::WrongNumber, 2)?;
+    must(in_limits(3, header.entries), Reason::WrongNumber, 3)?;
+    must(in_limits(4, header.rules), Reason::WrongNumber, 4)?;
+    must(in_limits(5, header.edges), Reason::WrongNumber, 5)?;
+    must(header.query < header.nonterminals, Reason::WrongNumber, 6)
+}
+
+pub(crate) fn header(deck: &[u8]) -> Header
     requires { 512 ≤ length deck.now }
     ensures { result ≡ header_of deck.now }
 {
+    let block = Block { deck, position: 0 };
     Header {
-        nodes: word_at(deck, 0, 0),
-        nonterminals: word_at(deck, 0, 1),
-        labels: word_at(deck, 0, 2),
-        entries: word_at(deck, 0, 3),
-        rules: word_at(deck, 0, 4),
-        edges: word_at(deck, 0, 5),
-        query: word_at(deck, 0, 6),
+        nodes: block.word(0),
+        nonterminals: block.word(1),
+        labels: block.word(2),
+        entries: block.word(3),
+        rules: block.word(4),
+        edges: block.word(5),
+        query: block.word(6),
     }
 }
 
-fn limit(deck: &[u8], k: usize) -> Check
-    requires { (512 ≤ length deck.now) × (k < 252) }
-    ensures { result ≡ limit_check deck.now k }
-{
-    must(in_limits(k, word_at(deck, 0, k)), 4, k)
-}
-
-fn limits(deck: &[u8]) -> Check
-    requires { 512 ≤ length deck.now }
-    ensures { result ≡ scan (limit_check deck.now) 6 }
-{
-    let mut k = 0;
-    while k < 6 {
-        let c = limit(deck, k);
-        if let Check::Bad(_) = c {
-            return c;
-        }
-        k += 1;
-    }
-    Check::Good
-}
-
-pub(crate) fn header_check(deck: &[u8]) -> Check
-    requires { 512 ≤ length deck.now }
-    ensures { result ≡ header_check deck.now }
-{
-    let below = word_at(deck, 0, 6) < word_at(deck, 0, 1);
-    and_then(limits(deck), must(below, 4, 6))
-}
-
-fn zeros_from(deck: &[u8], b: usize, w: usize) -> bool
-    requires { (b * 512 + 512 ≤ length deck.now) × (w ≤ 252) }
-    ensures { result ≡ zeros_from deck.now b w }
-{
-    byte_sum(deck, b * 512 + 4 + 2 * w, 504 - 2 * w) == 0
-}
-
-fn last_of_type(deck: &[u8], b: usize) -> bool
-    requires { b * 512 + 512 ≤ length deck.now }
-    ensures { result ≡ last_of_type deck.now b }
-{
-    let next = b + 1;
-    if next == deck.len() / 512 {
-        return true;
-    }
-    type_of(deck, next) != type_of(deck, b)
-}
-
-fn right_header(deck: &[u8], b: usize) -> bool
-    requires { b * 512 + 512 ≤ length deck.now }
-    ensures { result ≡ right_header deck.now b }
-{
-    if used_of(deck, b) != 3 {
-        return false;
-    }
-    zeros_from(deck, b, 7)
-}
-
-fn right_records(deck: &[u8], b: usize) -> bool
-    requires { b * 512 + 512 ≤ length deck.now }
-    ensures { result ≡ right_records deck.now b }
-{
-    let used = used_of(deck, b);
-    if used < 1 {
-        return false;
-    }
-    if 84 < used {
-        return false;
-    }
-    if used < 84 {
-        if !last_of_type(deck, b) {
-            return false;
-        }
-    }
-    zeros_from(deck, b, 3 * used)
-}
-
-fn fill(deck: &[u8], b: usize) -> Check
-    requires { b * 512 + 512 ≤ length deck.now }
-    ensures { result ≡ fill_check deck.now b }
-{
-    let kind = type_of(deck, b);
-    match kind {
-        1 => must(right_header(deck, b), 5, b),
-        2..=4 => must(right_records(deck, b), 5, b),
-        _ => must(false, 3, b),
-    }
-}
-
-pub(crate) fn fills(deck: &[u8], n: usize) -> Check
-    requires { n * 512 ≤ length deck.now }
-    ensures { result ≡ scan (fill_check deck.now) n }
-{
-    let mut b = 0;
-    while b < n {
-        let c = fill(deck, b);
-        if let Check::Bad(_) = c {
-            return c;
-        }
-        b += 1;
-    }
-    Check::Good
-}
-
-// How many records block b has of type t.
-fn records_in(deck: &[u8], t: u8, b: usize) -> usize
-    requires { b * 512 + 512 ≤ length deck.now }
-    ensures { (result ≡ records_in deck.now t b) × (result < 256) }
-{
-    if type_of(deck, b) == t {
-        return used_of(deck, b);
-    }
-    0
-}
-
-fn total(deck: &[u8], t: u8, n: usize) -> usize
-    requires { n * 512 ≤ length deck.now }
-    ensures { result ≡ total_of deck.now t n }
+// How many records the blocks of a type have together.
+pub(crate) fn total(deck: &[u8], kind: BlockType) -> usize
+    ensures { result ≡ total_of deck.now (type_number kind) (blocks deck.now) }
 {
     let mut sum = 0;
-    let mut b = 0;
-    while b < n {
-        sum += records_in(deck, t, b);
-        b += 1;
+    for block in Reader::open(deck) {
+        if block.type_byte() == u8::from(kind) {
+            sum += block.used();
+        }
     }
     sum
 }
 
-fn right_totals(deck: &[u8], h: Header) -> bool
-    requires { h ≡ header_of deck.now }
-    ensures { result ≡ right_totals deck.now }
+// The first block of a type or a later one.
+fn first_of(deck: &[u8], kind: BlockType) -> usize
+    ensures { result ≡ first_of deck.now (type_number kind) }
 {
-    let n = deck.len() / 512;
-    if total(deck, 2, n) != h.entries {
-        return false;
-    }
-    if total(deck, 3, n) != h.rules {
-        return false;
-    }
-    total(deck, 4, n) == h.edges
-}
-
-pub(crate) fn totals(deck: &[u8], h: Header) -> Check
-    requires { h ≡ header_of deck.now }
-    ensures { result ≡ totals_check deck.now }
-{
-    must(right_totals(deck, h), 5, 0)
-}
-
-// The first block whose type is t or more.
-fn first_of(deck: &[u8], t: u8) -> usize
-    ensures { result ≡ first_of deck.now t }
-{
-    let n = deck.len() / 512;
-    let mut b = 0;
-    while b < n {
-        if t <= type_of(deck, b) {
-            break;
+    for block in Reader::open(deck) {
+        if u8::from(kind) <= block.type_byte() {
+            return block.position;
         }
-        b += 1;
     }
-    b
+    deck.len() / BLOCK_BYTES
 }
 
 pub(crate) fn sections(deck: &[u8]) -> Sections
     ensures { result ≡ sections_of deck.now }
 {
     Sections {
-        map: first_of(deck, 2),
-        rules: first_of(deck, 3),
-        edges: first_of(deck, 4),
+        header: first_of(deck, BlockType::Header),
+        map: first_of(deck, BlockType::Map),
+        rules: first_of(deck, BlockType::Rules),
+        edges: first_of(deck, BlockType::Edges),
     }
 }

@@ -1,65 +1,66 @@
-// Writes the two lists, once every check has passed.
-ghost use Rattle.std.specs.Prelude.{◌≡◌, ◌*◌, ◌/◌, ◌%◌, ◌≤◌, ◌<◌, length, set};
+// The two lists: their room, and what is written into them once every check has passed.
+ghost use Rattle.std.specs.Prelude.{◌≡◌, ℕ, ◌*◌, ◌≤◌, ◌<◌, length};
 ghost use Rattle.words.specs.Tab.{over};
 ghost use Rattle.deck.specs.Reads.{rules_of, edges_of, edge_word};
-ghost use Rattle.deck.specs.Stages.{Handed, Mapped, Kinds, Known};
+ghost use Rattle.deck.specs.Stages.{RightEdges, FrontIs, lists_room};
 
-use crate::records::{edge_word, find, kinds_of, rule_word};
-use crate::{Found, Header, Sections};
+use crate::reader::{BlockType, RECORD_WORDS};
+use crate::records::{Labels, Records};
+use numbers::room;
+use words::Refusal;
 
-pub(crate) fn put_rules(deck: &[u8], h: Header, s: Sections, rules: &mut [u16])
-    requires handed { Handed deck.now h s }
-    requires rules_in_bounds { 3 * h.rules ≤ length rules.old }
-    ensures { rules.new ≡ over (rules_of deck.now) rules.old }
+// Writes what `word` gives for 0, 1, .., n - 1 into the front of a list.
+pub(crate) fn put_front<F: Fn(usize) -> u16>(list: &mut [u16], n: usize, word: F)
+    requires given { (k : ℕ) → k < n → F.pre word k }
+    requires room { n ≤ length list.old }
+    ensures { FrontIs (λ k x. F.post word k x) n list.old list.new }
 {
-    let n = 3 * h.rules;
-    let mut w = 0;
-    while w < n {
-        rules[w] = rule_word(deck, s, w / 3, w % 3);
-        w += 1;
+    for (k, place) in list[..n].iter_mut().enumerate() {
+        *place = word(k);
     }
 }
 
-// Word w of the edge list: an edge's label stands for its kind.
-fn put_edge_word(
-    deck: &[u8],
-    h: Header,
-    s: Sections,
-    kinds: &[u16; 256],
-    w: usize,
-    edges: &mut [u16],
-)
-    requires handed { Handed deck.now h s }
-    requires mapped { Mapped deck.now }
-    requires kinds { Kinds deck.now kinds.now }
-    requires known { Known deck.now }
-    requires w_bound { (w < 3 * h.edges) × (w < length edges.old) }
-    ensures { edges.new ≡ set edges.old w (edge_word deck.now (w / 3) (w % 3)) }
-{
-    let k = w % 3;
-    let word = edge_word(deck, s, w / 3, k);
-    if k != 1 {
-        edges[w] = word;
-        return;
+impl<'a> Records<'a> {
+    // Room in the rule list, then in the edge list.
+    #[tactic(auto, using(words::proofs::Refusals::refusing))]
+    pub(crate) fn room_check(&self, rules: usize, edges: usize) -> Result<(), Refusal>
+        ensures { result ≡ lists_room self.now.header rules edges }
+    {
+        room(3, RECORD_WORDS * self.header.rules, rules)?;
+        room(4, RECORD_WORDS * self.header.edges, edges)
     }
-    let found = find(deck, h, s, kinds, word);
-    if let Found::Label(label) = found {
-        edges[w] = label;
+
+    #[tactic(auto, unfolding(crate::specs::Reads::rules_of))]
+    pub(crate) fn put_rules(&self, rules: &mut [u16])
+        requires { 3 * self.now.header.rules ≤ length rules.old }
+        ensures { rules.new ≡ over (rules_of self.now.deck.now) rules.old }
+    {
+        put_front(rules, RECORD_WORDS * self.header.rules, |w| {
+            self.word(BlockType::Rules, w / RECORD_WORDS, w % RECORD_WORDS)
+        });
     }
 }
 
-pub(crate) fn put_edges(deck: &[u8], h: Header, s: Sections, edges: &mut [u16])
-    requires handed { Handed deck.now h s }
-    requires mapped { Mapped deck.now }
-    requires known { Known deck.now }
-    requires edges_in_bounds { 3 * h.edges ≤ length edges.old }
-    ensures { edges.new ≡ over (edges_of deck.now) edges.old }
-{
-    let kinds = kinds_of(deck, h, s);
-    let n = 3 * h.edges;
-    let mut w = 0;
-    while w < n {
-        put_edge_word(deck, h, s, &kinds, w, edges);
-        w += 1;
+impl<'a> Labels<'a> {
+    // Word k of edge e as the engine has it: its label stands for its kind.
+    fn edge_word(&self, e: usize, k: usize) -> u16
+        requires right { RightEdges self.now.records.deck.now }
+        requires edge { e < self.now.records.header.edges }
+        requires word { k < 3 }
+        ensures { result ≡ edge_word self.now.records.deck.now e k }
+    {
+        let word = self.records.word(BlockType::Edges, e, k);
+        if k == 1 { self.of(word).unwrap() } else { word }
+    }
+
+    #[tactic(auto, unfolding(crate::specs::Reads::edges_of))]
+    pub(crate) fn put_edges(&self, edges: &mut [u16])
+        requires right { RightEdges self.now.records.deck.now }
+        requires room { 3 * self.now.records.header.edges ≤ length edges.old }
+        ensures { edges.new ≡ over (edges_of self.now.records.deck.now) edges.old }
+    {
+        put_front(edges, RECORD_WORDS * self.records.header.edges, |w| {
+            self.edge_word(w / RECORD_WORDS, w % RECORD_WORDS)
+        });
     }
 }

@@ -1,5 +1,5 @@
 // The deck reader: bytes to a list of rules and a list of edges.
-// Its refusals come in document 01's order, stage by stage, and nothing is written before the last check has passed.
+// Its checks are asked in one order, stage by stage, and nothing is written before the last has passed.
 #![tactic(auto)]
 
 mod blocks;
@@ -7,16 +7,20 @@ mod copy;
 mod reader;
 mod records;
 
-ghost use Rattle.std.specs.Prelude.{◌≡◌, ◌≤◌, length};
-ghost use Rattle.words.specs.declared.Check.TheVariants.{Good};
-ghost use Rattle.deck.specs.Reads.{numbers_in, right_size, size_check, header_check, deck_check, read_check, rules_of, edges_of, answered, written};
-ghost use Rattle.deck.specs.Stages.{Handed, records_check, filled_check, lists_room};
+ghost use Rattle.std.specs.Prelude.{◌≡◌, length, IfOk, IfErr, Err};
+ghost use Rattle.words.specs.Refusals.{Good};
+ghost use Rattle.deck.specs.Reads.{numbers_in, size_check, deck_check, read_check, rules_of, edges_of, header_if, written};
 
-use numbers::{Numbers, room};
-use words::{Check, Refusal, and_then, must};
+use crate::reader::BLOCK_BYTES;
+use crate::records::{Labels, Records};
+use numbers::Numbers;
+use words::{Reason, Refusal, must};
+
+// The longest deck.
+const DECK_BYTES: usize = 58 * BLOCK_BYTES;
 
 // The seven header numbers.
-#[derive(Clone, Copy)]
+#[derive(Clone, Copy, Debug, PartialEq, Eq)]
 pub struct Header {
     pub nodes: usize,
     pub nonterminals: usize,
@@ -27,28 +31,16 @@ pub struct Header {
     pub query: usize,
 }
 
-#[derive(Clone, Copy)]
-pub enum ReadAnswer {
-    Read(Header),
-    Refused(Refusal),
-}
-
-// The first blocks of the map, the rules and the edges.
+// The first block of each type.
 #[derive(Clone, Copy)]
 struct Sections {
+    header: usize,
     map: usize,
     rules: usize,
     edges: usize,
 }
 
-// The label of a kind, or nothing where no map entry has it.
-#[derive(Clone, Copy)]
-enum Found {
-    Label(u16),
-    Nothing,
-}
-
-// The header's numbers as the engine takes them.
+// The header's numbers as the engine takes them; a function and no `From`, since docs/STATEMENTS.md names it.
 pub fn numbers_in(h: Header) -> Numbers
     ensures { result ≡ numbers_in h }
 {
@@ -59,98 +51,43 @@ pub fn numbers_in(h: Header) -> Numbers
     }
 }
 
-fn right_size(deck: &[u8]) -> bool
-    ensures { result ≡ right_size deck.now }
-{
-    let n = deck.len();
-    if n == 0 {
-        return false;
-    }
-    if n % 512 != 0 {
-        return false;
-    }
-    n <= 29696
-}
-
-fn size_check(deck: &[u8]) -> Check
+#[tactic(auto, unfolding(crate::specs::Reads::size_check))]
+fn size_check(deck: &[u8]) -> Result<(), Refusal>
     ensures { result ≡ size_check deck.now }
 {
-    must(right_size(deck), 1, 0)
+    let n = deck.len();
+    must(
+        0 < n && n % BLOCK_BYTES == 0 && n <= DECK_BYTES,
+        Reason::WrongSize,
+        0,
+    )
 }
 
-// 6; 7; then edge by edge 8 before 9.
-fn records_check(deck: &[u8], h: Header, s: Sections) -> Check
-    requires { Handed deck.now h s }
-    ensures { result ≡ records_check deck.now }
+// Every check of the deck, in their order. What passes them all hands on its records and the labels of its kinds.
+#[tactic(auto, using(words::proofs::Refusals::refusing, crate::proofs::Handed::sized, crate::proofs::Readers::framed_each), unfolding(crate::specs::Reads::deck_check))]
+fn checked(deck: &[u8]) -> Result<Labels, Refusal>
+    ensures ok { IfOk result (λ labels. (labels.records.deck.now ≡ deck.now) × (deck_check deck.now ≡ Good)) }
+    ensures err { IfErr result (λ r. deck_check deck.now ≡ Err r) }
 {
-    let map = records::entries(deck, h, s);
-    let rules = records::rules(deck, h, s);
-    let listed = and_then(map, rules);
-    if let Check::Bad(_) = listed {
-        return listed;
-    }
-    records::edges(deck, h, s)
+    size_check(deck)?;
+    blocks::each(deck, |block| block.frame())?;
+    let records = Records::new(deck)?;
+    blocks::each(deck, |block| block.fill())?;
+    records.totals()?;
+    records.labels()
 }
 
-// 5, and what follows it.
-fn filled_check(deck: &[u8]) -> Check
-    requires deck_value { size_check deck.now ≡ Good }
-    requires deck_value_2 { header_check deck.now ≡ Good }
-    ensures { result ≡ filled_check deck.now }
-{
-    let h = blocks::read_header(deck);
-    let fills = blocks::fills(deck, deck.len() / 512);
-    let totals = blocks::totals(deck, h);
-    let filled = and_then(fills, totals);
-    if let Check::Bad(_) = filled {
-        return filled;
-    }
-    records_check(deck, h, blocks::sections(deck))
-}
-
-// 1; block by block 2 before 3; 4; and what follows it.
-fn deck_check(deck: &[u8]) -> Check
-    ensures { result ≡ deck_check deck.now }
-{
-    let size = size_check(deck);
-    if let Check::Bad(_) = size {
-        return size;
-    }
-    let frames = blocks::frames(deck, deck.len() / 512);
-    if let Check::Bad(_) = frames {
-        return frames;
-    }
-    let header = blocks::header_check(deck);
-    if let Check::Bad(_) = header {
-        return header;
-    }
-    filled_check(deck)
-}
-
-// 10: the rule list, then the edge list.
-fn room_check(h: Header, rules: usize, edges: usize) -> Check
-    requires { (h.rules ≤ 256) × (h.edges ≤ 4096) }
-    ensures { result ≡ lists_room h rules edges }
-{
-    and_then(room(3, 3 * h.rules, rules), room(4, 3 * h.edges, edges))
-}
-
-pub fn read(deck: &[u8], rules: &mut [u16], edges: &mut [u16]) -> ReadAnswer
-    ensures value { result ≡ answered (read_check deck.now (length rules.old) (length edges.old)) deck.now }
+// Reads a deck into the fronts of the two lists; a refusal leaves both as they were.
+#[tactic(auto, using(words::proofs::Refusals::handed_on, crate::proofs::Handed::read_stop, crate::proofs::Handed::read_next, crate::proofs::Handed::lists_fit, crate::proofs::Handed::right_deck))]
+pub fn read(deck: &[u8], rules: &mut [u16], edges: &mut [u16]) -> Result<Header, Refusal>
+    ensures value { result ≡ header_if (read_check deck.now (length rules.old) (length edges.old)) deck.now }
     ensures rules_after { rules.new ≡ written (read_check deck.now (length rules.old) (length edges.old)) (rules_of deck.now) rules.old }
     ensures edges_after { edges.new ≡ written (read_check deck.now (length rules.old) (length edges.old)) (edges_of deck.now) edges.old }
 {
-    let checked = deck_check(deck);
-    if let Check::Bad(r) = checked {
-        return ReadAnswer::Refused(r);
-    }
-    let h = blocks::read_header(deck);
-    let s = blocks::sections(deck);
-    let fits = room_check(h, rules.len(), edges.len());
-    if let Check::Bad(r) = fits {
-        return ReadAnswer::Refused(r);
-    }
-    copy::put_rules(deck, h, s, rules);
-    copy::put_edges(deck, h, s, edges);
-    ReadAnswer::Read(h)
+    let labels = checked(deck)?;
+    let records = labels.records;
+    records.room_check(rules.len(), edges.len())?;
+    records.put_rules(rules);
+    labels.put_edges(edges);
+    Ok(records.header)
 }

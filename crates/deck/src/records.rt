@@ -1,232 +1,196 @@
-// Records: the map's entries, the rules and the edges. Refusals 6 to 9.
-ghost use Rattle.std.specs.Prelude.{◌≡◌, ◌+◌, ◌*◌, ◌/◌, ◌%◌, ◌≤◌, ◌<◌};
-ghost use Rattle.words.specs.Refusals.{scan};
-ghost use Rattle.deck.specs.Blocks.{word_at, record_at};
-ghost use Rattle.deck.specs.Reads.{rising as rising_of, right_entry, entry_check, rule_record_check, right_nodes, right_kind, edge_record_check};
-ghost use Rattle.deck.specs.Stages.{Placed, Handed, Mapped, Kinds, Rising, upper_of, found_of};
+// The records of a deck: the map's entries, the rules and the edges, and the labels of the map's kinds.
+ghost use Rattle.std.specs.Prelude.{◌≡◌, ◌+◌, ◌*◌, ◌/◌, ◌%◌, ◌≤◌, ◌<◌, length, IfOk, IfErr, Err};
+ghost use Rattle.words.specs.Refusals.{Good, scan as scan_of};
+ghost use Rattle.deck.specs.Blocks.{type_number, word_at, first_of, record_at};
+ghost use Rattle.deck.specs.Reads.{size_check, header_check, header_of, right_totals, totals_check, rising as rising_of, entry_check, rule_record_check, edge_record_check};
+ghost use Rattle.deck.specs.Stages.{sections_of, RightMap, HoldsKinds, label_at, records_check};
 
-use crate::{Found, Header, Sections, numbers_in};
+use crate::blocks::{header, limits, sections, total};
+use crate::copy::put_front;
+use crate::reader::{BLOCK_BYTES, BLOCK_RECORDS, BlockType, RECORD_WORDS, WORDS_AT};
+use crate::{Header, Sections, numbers_in};
 use lists::right_rule;
-use words::{Check, and_then, must, read16};
+use numbers::between;
+use words::{Reason, Refusal, must, read, scan};
 
-// Word k of record r, of records that begin in block `first`.
-fn record_word(deck: &[u8], first: usize, r: usize, k: usize) -> u16
-    requires { (first ≤ 58) × ((r ≤ 4096) × (k < 3)) }
-    ensures { result ≡ word_at deck.now (first + r / 84) (3 * (r % 84) + k) }
-{
-    let b = first + r / 84;
-    read16(deck, b * 512 + 4 + 2 * (3 * (r % 84) + k))
+// The entries of the largest map.
+const MOST_ENTRIES: usize = 256;
+
+// A deck whose header is within its limits, and where the records of each type begin.
+#[derive(Clone, Copy)]
+pub(crate) struct Records<'a> {
+    pub deck: &'a [u8],
+    pub header: Header,
+    pub sections: Sections,
+    pub ghost small: { length deck.now ≤ 29696 },
+    pub ghost header_is: { header ≡ header_of deck.now },
+    pub ghost sections_are: { sections ≡ sections_of deck.now },
+    pub ghost entries_few: { header.entries ≤ 256 },
+    pub ghost rules_few: { header.rules ≤ 256 },
+    pub ghost edges_few: { header.edges ≤ 4096 },
 }
 
-fn map_word(deck: &[u8], s: Sections, m: usize, k: usize) -> u16
-    requires placed { Placed deck.now s }
-    requires m_bound { (m ≤ 4096) × (k < 3) }
-    ensures { result ≡ record_at deck.now 2 m k }
-{
-    record_word(deck, s.map, m, k)
+// The kinds of a right map, side by side: a search reads nothing else.
+#[derive(Clone, Copy)]
+pub(crate) struct Labels<'a> {
+    pub records: Records<'a>,
+    pub kinds: [u16; MOST_ENTRIES],
+    pub ghost right: { RightMap records.deck.now },
+    pub ghost held: { HoldsKinds records.deck.now kinds },
 }
 
-pub(crate) fn rule_word(deck: &[u8], s: Sections, r: usize, k: usize) -> u16
-    requires placed { Placed deck.now s }
-    requires r_bound { (r ≤ 4096) × (k < 3) }
-    ensures { result ≡ record_at deck.now 3 r k }
-{
-    record_word(deck, s.rules, r, k)
-}
-
-pub(crate) fn edge_word(deck: &[u8], s: Sections, e: usize, k: usize) -> u16
-    requires placed { Placed deck.now s }
-    requires e_bound { (e ≤ 4096) × (k < 3) }
-    ensures { result ≡ record_at deck.now 4 e k }
-{
-    record_word(deck, s.edges, e, k)
-}
-
-fn rising(deck: &[u8], s: Sections, m: usize) -> bool
-    requires placed { Placed deck.now s }
-    requires m_bound { m ≤ 4096 }
-    ensures { result ≡ rising_of deck.now m }
-{
-    if m == 0 {
-        return true;
+impl<'a> Records<'a> {
+    // The records of a deck whose header is within its limits.
+    #[tactic(auto, using(words::proofs::Refusals::handed_on, crate::proofs::Handed::limits_are))]
+    pub(crate) fn new(deck: &'a [u8]) -> Result<Records<'a>, Refusal>
+        requires { size_check deck.now ≡ Good }
+        ensures ok { IfOk result (λ records. (records.deck.now ≡ deck.now) × (header_check deck.now ≡ Good)) }
+        ensures err { IfErr result (λ r. header_check deck.now ≡ Err r) }
+    {
+        let header = header(deck);
+        limits(header)?;
+        Ok(Records {
+            deck,
+            header,
+            sections: sections(deck),
+        })
     }
-    map_word(deck, s, m - 1, 0) < map_word(deck, s, m, 0)
-}
 
-fn right_entry(deck: &[u8], h: Header, s: Sections, m: usize) -> bool
-    requires handed { Handed deck.now h s }
-    requires m_bound { m ≤ 4096 }
-    ensures { result ≡ right_entry deck.now m }
-{
-    if !rising(deck, s, m) {
-        return false;
+    // The counts of the blocks of each type add up to the header's.
+    fn right_totals(&self) -> bool
+        ensures { result ≡ right_totals self.now.deck.now }
+    {
+        total(self.deck, BlockType::Map) == self.header.entries
+            && total(self.deck, BlockType::Rules) == self.header.rules
+            && total(self.deck, BlockType::Edges) == self.header.edges
     }
-    let label = map_word(deck, s, m, 1) as usize;
-    if label < 1 {
-        return false;
+
+    #[tactic(auto, unfolding(crate::specs::Reads::totals_check))]
+    pub(crate) fn totals(&self) -> Result<(), Refusal>
+        ensures { result ≡ totals_check self.now.deck.now }
+    {
+        must(self.right_totals(), Reason::WrongCount, 0)
     }
-    if h.labels < label {
-        return false;
-    }
-    map_word(deck, s, m, 2) == 0
-}
 
-fn entry(deck: &[u8], h: Header, s: Sections, m: usize) -> Check
-    requires handed { Handed deck.now h s }
-    requires m_bound { m ≤ 4096 }
-    ensures { result ≡ entry_check deck.now m }
-{
-    must(right_entry(deck, h, s, m), 6, m)
-}
-
-pub(crate) fn entries(deck: &[u8], h: Header, s: Sections) -> Check
-    requires { Handed deck.now h s }
-    ensures { result ≡ scan (entry_check deck.now) (word_at deck.now 0 3) }
-{
-    let n = h.entries;
-    let mut m = 0;
-    while m < n {
-        let c = entry(deck, h, s, m);
-        if let Check::Bad(_) = c {
-            return c;
-        }
-        m += 1;
-    }
-    Check::Good
-}
-
-fn rule(deck: &[u8], h: Header, s: Sections, r: usize) -> Check
-    requires handed { Handed deck.now h s }
-    requires r_bound { r ≤ 4096 }
-    ensures { result ≡ rule_record_check deck.now r }
-{
-    let numbers = numbers_in(h);
-    let a = rule_word(deck, s, r, 0);
-    let b = rule_word(deck, s, r, 1);
-    let c = rule_word(deck, s, r, 2);
-    must(right_rule(numbers, a, b, c), 7, r)
-}
-
-pub(crate) fn rules(deck: &[u8], h: Header, s: Sections) -> Check
-    requires { Handed deck.now h s }
-    ensures { result ≡ scan (rule_record_check deck.now) (word_at deck.now 0 4) }
-{
-    let n = h.rules;
-    let mut r = 0;
-    while r < n {
-        let c = rule(deck, h, s, r);
-        if let Check::Bad(_) = c {
-            return c;
-        }
-        r += 1;
-    }
-    Check::Good
-}
-
-// The map's kinds, side by side: a search reads nothing else.
-pub(crate) fn kinds_of(deck: &[u8], h: Header, s: Sections) -> [u16; 256]
-    requires { Handed deck.now h s }
-    ensures { Kinds deck.now result }
-{
-    let mut kinds = [0u16; 256];
-    let n = h.entries;
-    let mut m = 0;
-    while m < n {
-        kinds[m] = map_word(deck, s, m, 0);
-        m += 1;
-    }
-    kinds
-}
-
-// How many of n kinds are not above this one, by halves.
-fn upper(kinds: &[u16; 256], n: usize, kind: u16) -> usize
-    requires n_bound { n ≤ 256 }
-    requires rising { Rising kinds.now n }
-    ensures { (result ≡ upper_of kinds.now n kind) × (result ≤ n) }
-{
-    let mut low = 0;
-    let mut high = n;
-    while low < high {
-        let middle = low + (high - low) / 2;
-        if kinds[middle] <= kind {
-            low = middle + 1;
-        } else {
-            high = middle;
+    // The block in which the records of a type begin.
+    #[tactic(auto, using(crate::proofs::Handed::first_small))]
+    fn first(&self, kind: BlockType) -> usize
+        ensures is { result ≡ first_of self.now.deck.now (type_number kind) }
+        ensures small { result ≤ 58 }
+    {
+        match kind {
+            BlockType::Header => self.sections.header,
+            BlockType::Map => self.sections.map,
+            BlockType::Rules => self.sections.rules,
+            BlockType::Edges => self.sections.edges,
         }
     }
-    low
-}
 
-// The label of a kind, or nothing. Only the last entry that is not above the kind can hold it.
-pub(crate) fn find(deck: &[u8], h: Header, s: Sections, kinds: &[u16; 256], kind: u16) -> Found
-    requires handed { Handed deck.now h s }
-    requires mapped { Mapped deck.now }
-    requires kinds { Kinds deck.now kinds.now }
-    ensures { result ≡ found_of deck.now kind }
-{
-    let behind = upper(kinds, h.entries, kind);
-    if behind == 0 {
-        return Found::Nothing;
+    // Word k of record r of a type.
+    #[tactic(auto, unfolding(crate::specs::Blocks::record_at))]
+    pub(crate) fn word(&self, kind: BlockType, r: usize, k: usize) -> u16
+        requires record { r ≤ 4096 }
+        requires word { k < 3 }
+        ensures { result ≡ record_at self.now.deck.now (type_number kind) r k }
+    {
+        let block = self.first(kind) + r / BLOCK_RECORDS;
+        let word = RECORD_WORDS * (r % BLOCK_RECORDS) + k;
+        read(self.deck, block * BLOCK_BYTES + WORDS_AT + 2 * word)
     }
-    let m = behind - 1;
-    let label = map_word(deck, s, m, 1);
-    if kinds[m] == kind {
-        return Found::Label(label);
+
+    // The kind of a map entry is above that of the one before it.
+    fn rising(&self, m: usize) -> bool
+        requires { m < self.now.header.entries }
+        ensures { result ≡ rising_of self.now.deck.now m }
+    {
+        m == 0 || self.word(BlockType::Map, m - 1, 0) < self.word(BlockType::Map, m, 0)
     }
-    Found::Nothing
-}
 
-fn right_nodes(deck: &[u8], h: Header, s: Sections, e: usize) -> bool
-    requires handed { Handed deck.now h s }
-    requires e_bound { e ≤ 4096 }
-    ensures { result ≡ right_nodes deck.now e }
-{
-    if h.nodes <= edge_word(deck, s, e, 0) as usize {
-        return false;
+    #[tactic(auto, unfolding(crate::specs::Reads::entry_check))]
+    fn entry(&self, m: usize) -> Result<(), Refusal>
+        requires { m < self.now.header.entries }
+        ensures { result ≡ entry_check self.now.deck.now m }
+    {
+        let label = usize::from(self.word(BlockType::Map, m, 1));
+        let right = self.rising(m)
+            && between(1, self.header.labels, label)
+            && self.word(BlockType::Map, m, 2) == 0;
+        must(right, Reason::WrongEntry, m)
     }
-    (edge_word(deck, s, e, 2) as usize) < h.nodes
-}
 
-fn right_kind(deck: &[u8], h: Header, s: Sections, kinds: &[u16; 256], e: usize) -> bool
-    requires handed { Handed deck.now h s }
-    requires mapped { Mapped deck.now }
-    requires kinds { Kinds deck.now kinds.now }
-    requires e_bound { e ≤ 4096 }
-    ensures { result ≡ right_kind deck.now e }
-{
-    let found = find(deck, h, s, kinds, edge_word(deck, s, e, 1));
-    if let Found::Label(_) = found {
-        return true;
+    #[tactic(auto, unfolding(crate::specs::Reads::rule_record_check))]
+    fn rule(&self, r: usize) -> Result<(), Refusal>
+        requires { r < self.now.header.rules }
+        ensures { result ≡ rule_record_check self.now.deck.now r }
+    {
+        let a = self.word(BlockType::Rules, r, 0);
+        let b = self.word(BlockType::Rules, r, 1);
+        let c = self.word(BlockType::Rules, r, 2);
+        must(
+            right_rule(numbers_in(self.header), a, b, c),
+            Reason::WrongRule,
+            r,
+        )
     }
-    false
+
+    // Writes the map's kinds, side by side.
+    fn put_kinds(&self, kinds: &mut [u16])
+        requires { self.now.header.entries ≤ length kinds.old }
+        ensures { HoldsKinds self.now.deck.now kinds.new }
+    {
+        put_front(
+            kinds,
+            self.header.entries,
+            |m| self.word(BlockType::Map, m, 0),
+        );
+    }
+
+    // The labels of the map's kinds, once the map, the rules and the edges are right.
+    #[tactic(auto, using(words::proofs::Refusals::refusing))]
+    pub(crate) fn labels(self) -> Result<Labels<'a>, Refusal>
+        ensures ok { IfOk result (λ labels. (labels.records.deck.now ≡ self.entry.deck.now) × (records_check self.entry.deck.now ≡ Good)) }
+        ensures err { IfErr result (λ r. records_check self.entry.deck.now ≡ Err r) }
+    {
+        scan(self.header.entries, |m| self.entry(m))?;
+        scan(self.header.rules, |r| self.rule(r))?;
+        let labels = Labels::new(self);
+        scan(self.header.edges, |e| labels.edge(e))?;
+        Ok(labels)
+    }
 }
 
-fn edge(deck: &[u8], h: Header, s: Sections, kinds: &[u16; 256], e: usize) -> Check
-    requires handed { Handed deck.now h s }
-    requires mapped { Mapped deck.now }
-    requires kinds { Kinds deck.now kinds.now }
-    requires e_bound { e ≤ 4096 }
-    ensures { result ≡ edge_record_check deck.now e }
-{
-    let nodes = must(right_nodes(deck, h, s, e), 8, e);
-    and_then(nodes, must(right_kind(deck, h, s, kinds, e), 9, e))
-}
+impl<'a> Labels<'a> {
+    pub(crate) fn new(records: Records<'a>) -> Labels<'a>
+        requires { RightMap records.deck.now }
+        ensures { result.records.deck.now ≡ records.entry.deck.now }
+    {
+        let mut kinds = [0u16; MOST_ENTRIES];
+        records.put_kinds(&mut kinds);
+        Labels { records, kinds }
+    }
 
-// Edge by edge, 8 before 9.
-pub(crate) fn edges(deck: &[u8], h: Header, s: Sections) -> Check
-    requires handed { Handed deck.now h s }
-    requires mapped { Mapped deck.now }
-    ensures { result ≡ scan (edge_record_check deck.now) (word_at deck.now 0 5) }
-{
-    let kinds = kinds_of(deck, h, s);
-    let n = h.edges;
-    let mut e = 0;
-    while e < n {
-        let c = edge(deck, h, s, &kinds, e);
-        if let Check::Bad(_) = c {
-            return c;
+    // The label of a kind, if a map entry has it.
+    pub(crate) fn of(&self, kind: u16) -> Option<u16>
+        ensures { result ≡ label_at self.now.records.deck.now kind }
+    {
+        let kinds = &self.kinds[..self.records.header.entries];
+        match kinds.binary_search(&kind) {
+            Ok(m) => Some(self.records.word(BlockType::Map, m, 1)),
+            Err(_) => None,
         }
-        e += 1;
     }
-    Check::Good
+
+    // The nodes of edge e, then its kind.
+    #[tactic(auto, using(words::proofs::Refusals::refusing, crate::proofs::Map::label_some), unfolding(crate::specs::Reads::edge_record_check))]
+    fn edge(&self, e: usize) -> Result<(), Refusal>
+        requires { e < self.now.records.header.edges }
+        ensures { result ≡ edge_record_check self.now.records.deck.now e }
+    {
+        let nodes = self.records.header.nodes;
+        let from = usize::from(self.records.word(BlockType::Edges, e, 0));
+        let kind = self.records.word(BlockType::Edges, e, 1);
+        let to = usize::from(self.records.word(BlockType::Edges, e, 2));
+        must(from < nodes && to < nodes, Reason::WrongEdge, e)?;
+        must(self.of(kind).is_some(), Reason::UnknownKind, e)
+    }
 }

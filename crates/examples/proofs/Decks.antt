@@ -1,4 +1,4 @@
--- The two decks of the examples: document 01's of the report section is accepted, and with its last edge's kind 12 it is not. Assumes nothing.
+-- The two decks of the examples: the one of the sample report is accepted, and with its last edge's kind 12 it is not. Assumes nothing.
 use mathlib.Core.List.{List, [], ◌∷◌}
 use mathlib.Core.Path.{◌≡◌, refl, sym, ◌∙◌}
 use Prim.Native.Nat.{ℕ, zero, suc, ◌+◌, ◌<◌}
@@ -8,9 +8,9 @@ use lib.Seq.{get_or-drop}
 use Rattle.words.specs.Bytes.{le_at}
 use Rattle.words.specs.First.{first}
 use Rattle.words.specs.Tab.{tab}
-use Rattle.words.specs.Refusals.{refused, must, ◌and_then◌, scan}
-use Rattle.words.specs.declared.Check.TheVariants.{Good}
+use Rattle.words.specs.Refusals.{refused, must, ◌and_then◌, scan, Good}
 use Rattle.words.proofs.Refusals.{and_stop, and_next, scan_good}
+use Rattle.words.specs.declared.Reason.TheVariants.{UnknownKind}
 use Rattle.numbers.specs.Numbers.{in_limits, room_check}
 use Rattle.lists.specs.Lists.{right_rule}
 use Rattle.deck.specs.Blocks.{blocks, sum_at, right_sum, right_order, total, first_of, record_at}
@@ -66,7 +66,7 @@ unfolding S deck_edges report deck block le_at first must ◌and_then◌ scan ta
 report_read =
     (rw (from_5 report ((scan_good (frame_check report) 4).1 (λ b h. (frames b h).0)) ((scan_good (fill_check report) 4).1 (λ b h. (fills b h).0)) refl refl), refl, refl, refl)
 
-pub unmapped_refused : Holds (refusal unmapped (refused 9 4))
+pub unmapped_refused : Holds (refusal unmapped (refused UnknownKind 4))
 unfolding unmapped deck block le_at first must ◌and_then◌ scan in_limits right_rule total first_of record_at size_check header_check totals_check entry_check rule_record_check entry_of edge_record_check read_check
 unmapped_refused rules edges =
     and_stop _

@@ -38,7 +38,7 @@ pub depth_not_passes : (after 2 (after 2 start pass) pass ≡ final) × (changes
 unfolding final start pass rules edges word joined cell candidate offer step wins ask_of steps_of tab first is_edge lowest_edge is_leaf leaf_word start_word start_table
 depth_not_passes = (refl, refl, refl)
 
--- "Steps in list order fill some cells too high at first": so (0, 1, 1), and it stays
+-- steps in the order of the list first fill (0, 1, 1) too high, and there it stays
 pub first_tree_wrong : ¬ FinalTable loop by_first_tree
 unfolding final by_first_tree first_tree start pass rules edges word joined cell candidate offer step wins ask_of steps_of tab first is_edge lowest_edge is_leaf leaf_word start_word start_table
 first_tree_wrong f =

@@ -1,5 +1,5 @@
--- Document 01, "Errors that look right": three ways to close a table that differ from the run's in one point, and a graph that shows all
--- three. The fourth, a label for an unmapped kind, is example i. Assumes nothing.
+-- Errors that look right: three ways to close a table that differ from the run's in one point, and a graph that shows all three. The
+-- fourth, a label for an unmapped kind, is example i. Assumes nothing.
 use Rattle.std.specs.Prelude.{List, [], ◌∷◌, cond, ℕ, min, get_or, set, eqb}
 use Rattle.key.specs.Keys.{EMPTY, key, middle_of, rule_of}
 use Rattle.meaning.specs.Net.{Net, net_of}
@@ -13,18 +13,18 @@ abbrev pub closing : {X : Type 0} → (X → Step → X) → X → List Step →
 closing f x [] = x
 closing f x (s ∷ ss) = closing f (f x s) ss
 
--- "Taking the first tree found": a cell that is filled stays
+-- keeping the first tree that is found: a cell that is filled stays
 unfoldable pub first_tree : ℕ → List ℕ → Step → List ℕ
 first_tree n t s = cond (eqb (get_or t (target_of n s) 0) EMPTY) (step n t s) t
 
--- "Counting the pass number as the height": what is found in pass p, the start being pass 1, has height p
+-- taking the number of the pass for the height: what is found in pass p, the start being pass 1, gets height p
 unfoldable pub counted : ℕ → ℕ → ℕ
 counted p κ = cond (eqb κ EMPTY) EMPTY (key p (middle_of κ) (rule_of κ))
 
 unfoldable pub pass_number : ℕ → ℕ → List ℕ → Step → List ℕ
 pass_number p n t s = set t (target_of n s) (min (get_or t (target_of n s) 0) (counted p (offer n t s)))
 
--- "Storing the length with each step and rewriting it only when the key falls"
+-- writing the length beside each step's key, and only where the key falls: a side's length may change later, at the same height
 pub record Stored : Type 0 where
   pub table : List ℕ
   pub lengths : List ℕ

@@ -1,9 +1,8 @@
--- Document 01, "Checked examples", a to i as one table. Assumes nothing.
+-- The checked examples a to i as one table. Assumes nothing.
 use Rattle.std.specs.Prelude.{◌≡◌, List, [], ◌∷◌, ◌++◌, ℕ, ◌-◌, length, replicate}
 use Rattle.key.specs.Keys.{EMPTY, height_of, middle_of, rule_of}
-use Rattle.words.specs.declared.Check.{Check}
-use Rattle.words.specs.declared.Check.TheVariants.{Good}
-use Rattle.words.specs.Refusals.{refused}
+use Rattle.words.specs.Refusals.{refused, Check, Good}
+use Rattle.words.specs.declared.Reason.TheVariants.{UnknownKind}
 use Rattle.meaning.specs.Net.{Net, net_of}
 use Rattle.meaning.specs.Table.{at, cells, Each}
 use Rattle.meaning.specs.Final.{FinalTable}
@@ -39,7 +38,7 @@ pub data Example : Type 0 where
   refusal : (deck : List ℕ) → Check → Example
   reading : (deck : List ℕ) → Header → (rules edges : List ℕ) → Example
 
--- a final table of the graph has what is claimed; demand 2: any two of them agree on every cell
+-- a final table of the graph has what is claimed; any two final tables agree on every cell
 abbrev pub Holds : Example → Type 0
 Holds (graph n m rules edges claims) = (t : List ℕ) × FinalTable (net_of n m rules edges) t × AllClaimed (net_of n m rules edges) t claims
 Holds (lengths a b sum) = held_sum a b ≡ sum
@@ -54,11 +53,11 @@ abbrev pub AllHold : List Example → Type 0
 AllHold [] = Unit {0}
 AllHold (x ∷ xs) = Holds x × AllHold xs
 
--- "rules 0 → 1; 1 → 2 and 2 → 3 as label rules, then pair rules (0,1,2), (0,1,3), (3,0,2), (0,0,0)"
+-- the rules of the sample deck: label rules 0 → 1, 1 → 2, 2 → 3, then pair rules 0 → 1 2, 0 → 1 3, 3 → 0 2, 0 → 0 0
 unfoldable pub S : List ℕ
 S = 0 ∷ 1 ∷ 65535 ∷ 1 ∷ 2 ∷ 65535 ∷ 2 ∷ 3 ∷ 65535 ∷ 0 ∷ 1 ∷ 2 ∷ 0 ∷ 1 ∷ 3 ∷ 3 ∷ 0 ∷ 2 ∷ 0 ∷ 0 ∷ 0 ∷ []
 
--- "edges (0,20,1), (1,10,2), (2,30,3), (3,10,4), (4,11,4)", their kinds mapped to labels
+-- the edges of the sample deck as (from, label, to): their kinds 20, 10, 30, 10, 11 are mapped to the labels 2, 1, 3, 1, 1
 unfoldable pub deck_edges : List ℕ
 deck_edges = 0 ∷ 2 ∷ 1 ∷ 1 ∷ 1 ∷ 2 ∷ 2 ∷ 3 ∷ 3 ∷ 3 ∷ 1 ∷ 4 ∷ 4 ∷ 1 ∷ 4 ∷ []
 
@@ -66,8 +65,8 @@ deck_edges = 0 ∷ 2 ∷ 1 ∷ 1 ∷ 1 ∷ 2 ∷ 2 ∷ 3 ∷ 3 ∷ 3 ∷ 1 ∷ 4
 unfoldable pub block : List ℕ → ℕ → ℕ → List ℕ
 block front low high = front ++ (replicate (508 - length front) 0 ++ (low ∷ high ∷ 0 ∷ 0 ∷ []))
 
--- the deck of the report section, "5 nodes, 4 nonterminals, 3 labels, query 0; map 10→1, 11→1, 20→2, 30→3", the rules and the edges above;
--- the last edge's kind as given, with its block's check
+-- the sample deck: header (5, 4, 3), (4, 7, 5), query 0; the map of kinds 10, 11, 20, 30 to labels 1, 1, 2, 3; the rules and the edges
+-- above; the last edge's kind as given, with its block's check
 unfoldable pub deck : ℕ → ℕ → List ℕ
 deck kind check =
     block (1 ∷ 3 ∷ 0 ∷ 0 ∷ 5 ∷ 0 ∷ 4 ∷ 0 ∷ 3 ∷ 0 ∷ 4 ∷ 0 ∷ 7 ∷ 0 ∷ 5 ∷ []) 32 0
@@ -93,18 +92,18 @@ unfoldable pub examples : List Example
 examples =
     -- a, b, c
     graph 5 4 S deck_edges (cell_is 0 0 4 17180065798 ∷ height_is 3 1 3 2 ∷ middle_is 3 1 3 2 ∷ rule_is 3 1 3 5 ∷ cell_is 0 2 3 EMPTY ∷ [])
-    -- d: "S, steps 0→1→2→3"
+    -- d: a path of three edges with label 1
     ∷ graph 4 4 S (0 ∷ 1 ∷ 1 ∷ 1 ∷ 1 ∷ 2 ∷ 2 ∷ 1 ∷ 3 ∷ []) (height_is 0 0 3 3 ∷ middle_is 0 0 3 1 ∷ [])
-    -- e: "S, steps 0→1→2→3→4"
+    -- e: a path of four edges with label 1
     ∷ graph 5 4 S (0 ∷ 1 ∷ 1 ∷ 1 ∷ 1 ∷ 2 ∷ 2 ∷ 1 ∷ 3 ∷ 3 ∷ 1 ∷ 4 ∷ []) (height_is 0 0 4 3 ∷ middle_is 0 0 4 2 ∷ [])
-    -- f: "S, steps 0→1, 0→2, 1→3, 2→3 in that order"
+    -- f: two paths of two edges with label 1 from 0 to 3, by 1 and by 2
     ∷ graph 4 4 S (0 ∷ 1 ∷ 1 ∷ 0 ∷ 1 ∷ 2 ∷ 1 ∷ 1 ∷ 3 ∷ 2 ∷ 1 ∷ 3 ∷ []) (middle_is 0 0 3 1 ∷ path_is 0 0 3 (0 ∷ 2 ∷ []) ∷ [])
-    -- g: "no edges: all empty, depth 0"
+    -- g: a graph with no edges
     ∷ graph 5 4 S [] (all_empty ∷ depth_is 0 ∷ [])
     -- h
     ∷ lengths 4294967294 1 4294967295
     ∷ lengths 4294967295 1 4294967295
-    -- i: "the deck above with its last edge's kind 12: 9 at 4"; and the deck above
-    ∷ refusal unmapped (refused 9 4)
+    -- i: the sample deck with its last edge's kind 12, which the map lacks; and the sample deck itself
+    ∷ refusal unmapped (refused UnknownKind 4)
     ∷ reading report (record { nodes = 5; nonterminals = 4; labels = 3; entries = 4; rules = 7; edges = 5; query = 0 }) S deck_edges
     ∷ []

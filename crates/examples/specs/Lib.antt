@@ -1,3 +1,3 @@
--- What document 01 gives as examples, and the errors it warns of.
+-- Checked examples, and errors that look right.
 pub mod Examples
 pub mod Errors

@@ -1,3 +1,3 @@
-// Document 01's checked examples a to i as one table, and its errors that look right as programs that go wrong.
+// The checked examples a to i as one table, and errors that look right as programs that go wrong.
 // There is no code here: definitions in specs/, and their proofs, by computation, in proofs/.
 #![tactic(auto)]

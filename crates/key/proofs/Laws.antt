@@ -53,7 +53,7 @@ module _ (h k r h' k' r' : ℕ) (hk : k < 65536) (hr : r < 65536) (hk' : k' < 65
       (λ t. nearer (omega arith) (ltb-true k k' t))
       (λ g. let b = ltb-false k k' g in earlier (omega arith) (omega arith) (omega arith)))
 
-  -- "The packing of height above middle, compared as one number"
+  -- keys compare as numbers the way their parts compare: height first, then middle, then rule number
   pub key_order : (key h k r < key h' k' r') ↔ Before h k r h' k' r'
   key_order = (before, less)
 

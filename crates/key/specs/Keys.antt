@@ -1,12 +1,12 @@
--- Document 01, "The table": an empty cell, and the key of a filled one. Assumes nothing.
+-- The word of a cell of the table: an empty cell, and the key of a filled one. Assumes nothing.
 use Rattle.std.specs.Prelude.{ℕ, ◌+◌, ◌*◌, ◌/◌, ◌%◌}
 use Rattle.key.specs.declared.Parts.{Parts}
 
--- "An empty cell is 2^64 − 1."
+-- the word of an empty cell: 2^64 − 1, above every key
 abbrev pub EMPTY : ℕ
 EMPTY = 18446744073709551615
 
--- "a key: height × 2^32 + middle × 65,536 + rule number"
+-- the word of a filled cell: its height from bit 32 on, its middle in bits 16 to 31, its rule number in bits 0 to 15
 abbrev pub key : ℕ → ℕ → ℕ → ℕ
 key height middle rule = height * 4294967296 + middle * 65536 + rule
 
@@ -22,6 +22,6 @@ rule_of word = word % 65536
 abbrev pub parts_of : ℕ → Parts
 parts_of word = record { height = height_of word; middle = middle_of word; rule = rule_of word }
 
--- "a winning key would have height over 131,072"
+-- the greatest height that the run and a step write
 abbrev pub HIGHEST : ℕ
 HIGHEST = 131072

@@ -1,39 +1,43 @@
 // What the reader answers to a deck, as a line.
-use deck::{ReadAnswer, read};
+use deck::{Header, read};
+use std::fmt;
+use std::fmt::Write;
+use words::Refusal;
 
-fn answered(name: &[u8], answer: ReadAnswer) {
-    io::write_all(1, name);
-    match answer {
-        ReadAnswer::Read(_) => {
-            io::write_all(1, b" accepted\n");
-        }
-        ReadAnswer::Refused(r) => {
-            io::write_all(1, b" refused ");
-            io::print_decimal(1, r.number as u64);
-            io::write_all(1, b" at ");
-            io::print_decimal(1, r.place as u64);
-            io::write_all(1, b"\n");
+// The standard output. Not `println!`, whose proof rests on more of the C library than `io::write_all`.
+#[derive(Clone, Copy)]
+struct Output;
+
+impl Write for Output {
+    fn write_str(&mut self, s: &str) -> fmt::Result {
+        if io::write_all(1, s.as_bytes()) {
+            Ok(())
+        } else {
+            Err(fmt::Error)
         }
     }
 }
 
-fn tell(name: &[u8], deck: &[u8]) {
-    let mut rules: [u16; 768] = [0; 768];
-    let mut edges: [u16; 12288] = [0; 12288];
-    answered(name, read(deck, &mut rules, &mut edges));
+// What cannot be written is passed over.
+fn answered(name: &str, answer: Result<Header, Refusal>) {
+    let _ = match answer {
+        Ok(_) => writeln!(Output, "{name} accepted"),
+        Err(r) => writeln!(Output, "{name} {r}"),
+    };
 }
 
 // Room for no rule, then for no edge.
 pub(crate) fn tell_short(deck: &[u8]) {
-    let mut one: [u16; 3] = [0; 3];
-    let mut none: [u16; 2] = [0; 2];
-    answered(b"2 words for 1 rule", read(deck, &mut none, &mut one));
-    answered(b"2 words for 1 edge", read(deck, &mut one, &mut none));
+    let mut one = [0u16; 3];
+    let mut none = [0u16; 2];
+    answered("2 words for 1 rule", read(deck, &mut none, &mut one));
+    answered("2 words for 1 edge", read(deck, &mut one, &mut none));
 }
 
-// The deck of the first n bytes.
-pub(crate) fn tell_front(name: &[u8], deck: &[u8], n: usize) {
-    if n <= deck.len() {
-        tell(name, &deck[..n]);
-    }
+// The deck of the first n bytes, or of all there are.
+pub(crate) fn tell_front(name: &str, deck: &[u8], n: usize) {
+    let mut rules = [0u16; 768];
+    let mut edges = [0u16; 12288];
+    let front = &deck[..n.min(deck.len())];
+    answered(name, read(front, &mut rules, &mut edges));
 }

@@ -1,4 +1,5 @@
--- What accepted lists are good for: document 01's limits, each rule and edge in range, and a net that the theorems take. Assumes nothing.
+-- What accepted lists are good for: numbers within their limits, each rule and edge in range, and a net that the theorems take.
+-- Assumes nothing.
 use mathlib.Core.Path.{◌≡◌, sym, ◌∙◌}
 use mathlib.Core.List.{List}
 use mathlib.Core.Logic.{◌≢◌, ◌↔◌}
@@ -9,8 +10,8 @@ use lib.ListN.{length}
 use lib.Dec.{eqb, ltb}
 use borrow.Author.Tests.{ltb-true, eqb-true, eqb-false, lt-ltb, eq-eqb, ne_eqb}
 use borrow.Table.Steps.{cases}
-use Rattle.words.specs.declared.Check.TheVariants.{Good}
 use Rattle.words.proofs.Refusals.{both, must_good, and_good, scan_good}
+use Rattle.words.specs.Refusals.{Good}
 use Rattle.meaning.specs.Net.{word, Sane}
 use Rattle.meaning.proofs.Cells.{cells_few}
 use Rattle.numbers.specs.Numbers.{cells_of, between, in_limits, limits_check}

@@ -1,16 +1,41 @@
-// The engine's own checks of its numbers and lists: refusals 5, 4, 7, 8 in document 01's order.
-// Every function is total; the promise of each is the definition it names.
+// The engine's own checks of its numbers and lists: whole records, limits, each rule, each edge, in this order; and lists
+// that have passed them. Every function is total; the promise of each is the definition it names.
 #![tactic(auto)]
 
-ghost use Rattle.std.specs.Prelude.{◌≡◌, ◌/◌, length};
-ghost use Rattle.words.specs.Refusals.{scan};
+ghost use Rattle.std.specs.Prelude.{◌≡◌, ◌/◌, length, IfOk, IfErr, Err};
+ghost use Rattle.words.specs.Refusals.{Good, scan as scan_of};
 ghost use Rattle.lists.specs.Lists.{right_rule, right_edge, whole_check, rule_check, edge_check, lists_check};
 
-use meaning::word;
+use meaning::{EdgeWords, Rule, word};
 use numbers::{Numbers, between, limits};
-use words::{Check, and_then, must};
+use words::{Reason, Refusal, must, scan};
+
+// Numbers and two lists that pass `check`: what an engine works on once it has asked.
+#[derive(Clone, Copy)]
+pub struct Lists<'a> {
+    pub numbers: Numbers,
+    pub rules: &'a [u16],
+    pub edges: &'a [u16],
+    ghost passed: { lists_check numbers rules.now edges.now ≡ Good },
+}
+
+impl<'a> Lists<'a> {
+    // The lists as they are, or what they are refused for.
+    pub fn new(numbers: Numbers, rules: &'a [u16], edges: &'a [u16]) -> Result<Lists<'a>, Refusal>
+        ensures ok { IfOk result (λ l. (l.numbers ≡ numbers) × ((l.rules ≡ rules.entry) × (l.edges ≡ edges.entry))) }
+        ensures err { IfErr result (λ r. lists_check numbers rules.now edges.now ≡ Err r) }
+    {
+        check(numbers, rules, edges)?;
+        Ok(Lists {
+            numbers,
+            rules,
+            edges,
+        })
+    }
+}
 
 // Whether the record (a, b, c) is a rule in range.
+#[tactic(auto, unfolding(crate::specs::Lists::right_rule))]
 pub fn right_rule(numbers: Numbers, a: u16, b: u16, c: u16) -> bool
     ensures { result ≡ right_rule numbers a b c }
 {
@@ -18,89 +43,76 @@ pub fn right_rule(numbers: Numbers, a: u16, b: u16, c: u16) -> bool
     if m <= a as usize {
         return false;
     }
-    if c == 65535 {
-        return between(1, numbers.labels, b as usize);
+    match Rule::of(a, b, c) {
+        Rule::Label { label, .. } => between(1, numbers.labels, label as usize),
+        Rule::Pair { left, right, .. } => (left as usize) < m && (right as usize) < m,
     }
-    (b as usize) < m && (c as usize) < m
 }
 
-// Whether the record (i, x, j) is an edge in range.
-fn right_edge(numbers: Numbers, i: u16, x: u16, j: u16) -> bool
-    ensures { result ≡ right_edge numbers i x j }
+// Whether an edge is in range.
+#[tactic(auto, unfolding(crate::specs::Lists::right_edge))]
+fn right_edge(numbers: Numbers, edge: EdgeWords) -> bool
+    ensures { result ≡ right_edge numbers edge.from edge.label edge.to }
 {
     let n = numbers.nodes;
-    if n <= i as usize {
-        return false;
-    }
-    between(1, numbers.labels, x as usize) && (j as usize) < n
+    (edge.from as usize) < n
+        && between(1, numbers.labels, edge.label as usize)
+        && (edge.to as usize) < n
 }
 
-// 5: both lists hold whole records.
-fn whole_records(rules: usize, edges: usize) -> Check
+// Both lists hold whole records.
+#[tactic(auto, using(words::proofs::Refusals::refusing), unfolding(crate::specs::Lists::whole_check))]
+fn whole_records(rules: usize, edges: usize) -> Result<(), Refusal>
     ensures { result ≡ whole_check rules edges }
 {
-    and_then(must(rules % 3 == 0, 5, 0), must(edges % 3 == 0, 5, 1))
+    must(rules % 3 == 0, Reason::WrongCount, 0)?;
+    must(edges % 3 == 0, Reason::WrongCount, 1)
 }
 
-fn rule_check(numbers: Numbers, rules: &[u16], r: usize) -> Check
+#[tactic(auto, unfolding(crate::specs::Lists::rule_check))]
+fn rule_check(numbers: Numbers, rules: &[u16], r: usize) -> Result<(), Refusal>
     ensures { result ≡ rule_check numbers rules.now r }
 {
-    let a = word(rules, r, 0);
-    let b = word(rules, r, 1);
-    let c = word(rules, r, 2);
-    must(right_rule(numbers, a, b, c), 7, r)
+    let right = right_rule(
+        numbers,
+        word(rules, r, 0),
+        word(rules, r, 1),
+        word(rules, r, 2),
+    );
+    must(right, Reason::WrongRule, r)
 }
 
-fn edge_check(numbers: Numbers, edges: &[u16], e: usize) -> Check
+#[tactic(auto, unfolding(crate::specs::Lists::edge_check))]
+fn edge_check(numbers: Numbers, edges: &[u16], e: usize) -> Result<(), Refusal>
     ensures { result ≡ edge_check numbers edges.now e }
 {
-    let i = word(edges, e, 0);
-    let x = word(edges, e, 1);
-    let j = word(edges, e, 2);
-    must(right_edge(numbers, i, x, j), 8, e)
+    must(
+        right_edge(numbers, EdgeWords::at(edges, e)),
+        Reason::WrongEdge,
+        e,
+    )
 }
 
-fn rules_check(numbers: Numbers, rules: &[u16]) -> Check
-    ensures { result ≡ scan (rule_check numbers rules.now) (length rules.now / 3) }
+// Beside `edges_check`: what the two share is `scan`, which takes the check of one record.
+fn rules_check(numbers: Numbers, rules: &[u16]) -> Result<(), Refusal>
+    ensures { result ≡ scan_of (rule_check numbers rules.now) (length rules.now / 3) }
 {
-    let n = rules.len() / 3;
-    let mut r = 0;
-    while r < n {
-        let c = rule_check(numbers, rules, r);
-        if let Check::Bad(_) = c {
-            return c;
-        }
-        r += 1;
-    }
-    Check::Good
+    scan(rules.len() / 3, |r| rule_check(numbers, rules, r))
 }
 
-fn edges_check(numbers: Numbers, edges: &[u16]) -> Check
-    ensures { result ≡ scan (edge_check numbers edges.now) (length edges.now / 3) }
+fn edges_check(numbers: Numbers, edges: &[u16]) -> Result<(), Refusal>
+    ensures { result ≡ scan_of (edge_check numbers edges.now) (length edges.now / 3) }
 {
-    let n = edges.len() / 3;
-    let mut e = 0;
-    while e < n {
-        let c = edge_check(numbers, edges, e);
-        if let Check::Bad(_) = c {
-            return c;
-        }
-        e += 1;
-    }
-    Check::Good
+    scan(edges.len() / 3, |e| edge_check(numbers, edges, e))
 }
 
-// 5, 4, 7, 8: the checks that every engine call makes first. 5 and 4 bound what is scanned for 7 and 8.
-pub fn check(numbers: Numbers, rules: &[u16], edges: &[u16]) -> Check
+// What every engine call asks first. The first two checks bound what the others look through.
+#[tactic(auto, using(words::proofs::Refusals::refusing, words::proofs::Refusals::and_assoc), unfolding(crate::specs::Lists::lists_check))]
+pub fn check(numbers: Numbers, rules: &[u16], edges: &[u16]) -> Result<(), Refusal>
     ensures { result ≡ lists_check numbers rules.now edges.now }
 {
-    let whole = whole_records(rules.len(), edges.len());
-    let limited = limits(numbers, rules.len(), edges.len());
-    let counted = and_then(whole, limited);
-    if let Check::Bad(_) = counted {
-        return counted;
-    }
-    let ruled = rules_check(numbers, rules);
-    let edged = edges_check(numbers, edges);
-    and_then(ruled, edged)
+    whole_records(rules.len(), edges.len())?;
+    limits(numbers, rules.len(), edges.len())?;
+    rules_check(numbers, rules)?;
+    edges_check(numbers, edges)
 }

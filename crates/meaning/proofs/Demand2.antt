@@ -1,4 +1,4 @@
--- Demand 2: what a final table holds. Assumes nothing.
+-- What a final table holds: which cells are filled, their heights, their keys. Assumes nothing.
 use mathlib.Core.Path.{◌≡◌, refl, sym, ◌∙◌}
 use mathlib.Core.List.{List}
 use mathlib.Core.Logic.{inl, inr, ◌↔◌}
@@ -36,7 +36,7 @@ final_tables t t' f f' A i j hA hi hj = final_one (f.cell A i j hA hi hj) (f'.ce
 pub final_lists : {g : Net} (t t' : List ℕ) → FinalTable g t → FinalTable g t' → drop (cells g) t ≡ drop (cells g) t' → t ≡ t'
 final_lists {g} t t' f f' = tables_same g t t' f.long f'.long (final_tables t t' f f')
 
--- document 01 selects one key at most
+-- the rule of selection selects one key at most
 pub selected_one : {g : Net} {A i j κ κ' : ℕ} → Selected g A i j κ → Selected g A i j κ' → κ ≡ κ'
 selected_one (by_edge a l) (by_edge b k) = le_antisymm (l _ b) (k _ a)
 selected_one (by_edge a l) (by_rule x b k) = absurd (x _ a)
@@ -128,7 +128,7 @@ module _ {g : Net} (ok : Sane g) where
                 le_antisymm (rw (← (candidate_key best)) (f.least (candidate_tree best)).0) (omega (arith, is, low)) in
                 rw e best
 
-    -- and what document 01 selects is what the final table holds
+    -- and the key that the rule of selection selects is what the final table holds
     pub selected_final : {A i j κ : ℕ} → Selected g A i j κ → at g.nodes t A i j ≡ κ
     selected_final {A} {i} {j} x =
         let τ = selected_tree x in

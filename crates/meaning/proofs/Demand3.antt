@@ -1,4 +1,5 @@
--- Demand 3: at every moment, after p passes, and in a table that no step would change; from any sound table that holds its height 1 cells.
+-- What steps in any order do: at every moment, after p passes, and in a table that no step would change; from any sound table that
+-- holds its height 1 cells.
 -- Assumes nothing.
 use mathlib.Core.List.{List}
 use mathlib.Core.Path.{◌≡◌}

@@ -1,4 +1,4 @@
--- The depth of a final table is the largest of demand 2's heights, and 0 if no cell is filled. Assumes nothing.
+-- The depth of a final table is the largest of the least heights of trees, and 0 if no cell has a tree. Assumes nothing.
 use mathlib.Core.Path.{◌≡◌, refl}
 use mathlib.Core.List.{List}
 use mathlib.Core.Bool.{Bool, true, false, cond}

@@ -1,4 +1,4 @@
--- The theorems on what document 01 means.
+-- The theorems on what the definitions of specs/ mean.
 pub mod Records
 pub mod Joined
 pub mod Trees
@@ -23,3 +23,4 @@ pub mod Bits
 pub mod Rows
 pub mod Nets
 pub mod Computed
+pub mod Rules

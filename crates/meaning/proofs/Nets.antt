@@ -1,4 +1,4 @@
--- The net that two lists hold is sane where the numbers in them are within document 01's limits. Assumes nothing.
+-- The net that two lists hold is sane where the numbers in them are within their limits. Assumes nothing.
 use mathlib.Core.Path.{sym, ◌∙◌}
 use mathlib.Core.List.{List}
 use mathlib.Core.Logic.{◌≢◌}

@@ -144,7 +144,7 @@ module _ {g : Net} (ok : Sane g) {t ls : List ℕ} where
       pub recorded_length : at g.nodes ls A i j < HELD → length p ≡ at g.nodes ls A i j
       recorded_length h = omega (arith, recorded_held)
 
-      -- "A witness of an accepted table is at least as long as its height."
+      -- the path that an accepted table records for a cell has at least as many edges as the cell's height
       pub recorded_tall : height_of (at g.nodes t A i j) ≤ length p
       recorded_tall =
           let w = over.0 in

@@ -15,7 +15,7 @@ use Rattle.meaning.proofs.Trees.{tree_inside, height_pos, key_bounds}
 use Rattle.meaning.proofs.Steps.{sound_real, real_height}
 use Rattle.meaning.proofs.Lengths.{AtPair, Falling}
 
--- the sides of a pair cell: "both sides are filled, 1 + the larger height is its height"
+-- the sides of a pair cell: both are filled, and the cell is one higher than the higher of them
 pub record Sides (g : Net) (t : List ℕ) (A B C i j k : ℕ) : Type 0 where
   pub tall : 1 < height_of (at g.nodes t A i j)
   pub middle : k < g.nodes
@@ -112,6 +112,6 @@ module _ {g : Net} {t ls : List ℕ} where
   length_cell (RightCell.pair B C k f h p m i b c j a) = sum B C k f (omega arith) p m a
 
   module _ (right : RightTable g t ls) where
-    -- the length words of an accepted table are as document 01 says
+    -- the length words of an accepted table are those that its cells give
     pub right_lengths : Lengths g t ls
     right_lengths = record { long = right.lengths; cell = λ A i j hA hi hj. length_cell (right.cell A i j hA hi hj) }

@@ -111,7 +111,7 @@ module _ {g : Net} where
       let sum = joined_sum (height s) (height t) (height_pos s) (height_pos t) in
       omega (arith, edges_many s, edges_many t, length-append (edges_of s) (edges_of t))
 
-  -- "The length may double with each level of height": and it does no more than that
+  -- one level more of height at most doubles the number of edges
   pub edges_few : {A i j : ℕ} (τ : Tree g A i j) → 2 * length (edges_of τ) ≤ 2 ^ height τ
   edges_few (leaf r e l d) = omega arith
   edges_few (pair r k l s t) =

@@ -12,7 +12,7 @@ use Rattle.meaning.specs.Lengths.{held_sum}
 unfoldable pub is_edge : List ℕ → ℕ → ℕ → ℕ → ℕ → Bool
 is_edge edges i x j e = eqb (word edges e 0) i && (eqb (word edges e 1) x && eqb (word edges e 2) j)
 
--- "the lowest edge from i to j with that label", or the number of edges where there is none
+-- the first edge in the list from i to j with label x, or the number of edges where there is none
 unfoldable pub lowest_edge : List ℕ → ℕ → ℕ → ℕ → ℕ
 lowest_edge edges i x j = first (is_edge edges i x j) (length edges / 3)
 
@@ -20,13 +20,13 @@ lowest_edge edges i x j = first (is_edge edges i x j) (length edges / 3)
 unfoldable pub is_pair : List ℕ → ℕ → ℕ → Bool
 is_pair rules A r = ltb r (length rules / 3) && (eqb (word rules r 0) A && not (eqb (word rules r 2) 65535))
 
--- "if some edge i → j has label x and A → x is a rule": it is rule r
+-- rule r is a label rule for A, and some edge from i to j has its label
 unfoldable pub is_leaf : List ℕ → List ℕ → ℕ → ℕ → ℕ → ℕ → Bool
 is_leaf rules edges A i j r =
     ltb r (length rules / 3)
     && (eqb (word rules r 0) A && (eqb (word rules r 2) 65535 && ltb (lowest_edge edges i (word rules r 1) j) (length edges / 3)))
 
--- the start's word of a cell: "middle i, and the lowest such rule", or empty
+-- the start's word of a cell from r, the lowest rule that fits: a height 1 key with middle i, or EMPTY where none does
 unfoldable pub leaf_word : ℕ → ℕ → ℕ → ℕ
 leaf_word i r count = cond (ltb r count) (key 1 i r) EMPTY
 

@@ -1,11 +1,11 @@
--- The final key of a cell: the least key of any tree, and in document 01's own words. Assumes nothing.
+-- The final key of a cell, in two ways: as the least key of any tree, and as selected by height, middle and rule. Assumes nothing.
 use Rattle.std.specs.Prelude.{◌≡◌, List, ℕ, ◌≤◌, ◌<◌, length}
 use Rattle.key.specs.Keys.{EMPTY, key}
 use Rattle.meaning.specs.Net.{Net}
 use Rattle.meaning.specs.Trees.{joined, Tree, key_of, Least}
 use Rattle.meaning.specs.Table.{at, cells, Each, LeafKey, Sound}
 
--- "The final key of a cell is the least key it can have"; a cell with no tree is empty
+-- the least of the keys that trees give the cell; a cell with no tree is empty
 pub record FinalCell (g : Net) (A i j v : ℕ) : Type 0 where
   pub real : Sound g A i j v
   pub least : (τ : Tree g A i j) → (v ≤ key_of τ) × (v < EMPTY)
@@ -14,7 +14,8 @@ pub record FinalTable (g : Net) (t : List ℕ) : Type 0 where
   pub long : cells g ≤ length t
   pub cell : Each g (λ A i j. FinalCell g A i j (at g.nodes t A i j))
 
--- "pair rules A → B C and nodes k whose cells (B,i,k) and (C,k,j) hold least heights: 1 + the larger of the two, then .. k, then .. rule"
+-- the key that a pair rule A → B C and a node k offer the cell: one above the larger of the least heights of the sides (B, i, k) and
+-- (C, k, j), with middle k
 pub record Candidate (g : Net) (A i j κ : ℕ) : Type 0 where
   pub r : ℕ
   pub B : ℕ
@@ -27,7 +28,8 @@ pub record Candidate (g : Net) (A i j κ : ℕ) : Type 0 where
   pub right : Least g C k j b
   pub is : κ ≡ key (joined a b) k r
 
--- the final key as document 01 selects it: of height 1 "if some edge i → j has label x and A → x is a rule", "otherwise over all pair rules"
+-- the key that is selected: the least height 1 key where an edge from i to j carries the label of a label rule for A; else the least
+-- that pair rules offer: least height, then least middle, then lowest rule
 pub data Selected (g : Net) (A i j κ : ℕ) : Type 0 where
   by_edge : LeafKey g A i j κ → ((κ' : ℕ) → LeafKey g A i j κ' → κ ≤ κ') → Selected g A i j κ
   by_rule : ((κ' : ℕ) → ¬ LeafKey g A i j κ') → Candidate g A i j κ → ((κ' : ℕ) → Candidate g A i j κ' → κ ≤ κ') → Selected g A i j κ

@@ -1,4 +1,4 @@
--- What a reader must believe, in document 01's order.
+-- What a reader must believe of graphs, grammars, tables, steps, lengths and witnesses.
 pub mod Net
 pub mod Trees
 pub mod Table
@@ -8,3 +8,4 @@ pub mod Final
 pub mod Lengths
 pub mod Rows
 pub mod Computed
+pub mod Records

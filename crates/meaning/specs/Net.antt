@@ -5,14 +5,14 @@ use Rattle.std.specs.Prelude.{◌≡◌, List, ◌≢◌, ℕ, ◌+◌, ◌*◌,
 unfoldable pub word : List ℕ → ℕ → ℕ → ℕ
 word l r k = get_or l (3 * r + k) 0
 
--- edge e, a record (from, label, to), goes from i to j with label x; "a count is a third of its list's length"
+-- edge e, a record (from, label, to), goes from i to j with label x; a list holds a third as many records as words
 pub record Edge (edges : List ℕ) (e i x j : ℕ) : Type 0 where
   pub inside : e < length edges / 3
   pub from : word edges e 0 ≡ i
   pub label : word edges e 1 ≡ x
   pub to : word edges e 2 ≡ j
 
--- "The grammar is in normal form: a pair rule A → B C or a label rule A → x."
+-- A grammar and a graph. Each rule is a pair rule A → B C or a label rule A → x; there are no other rules.
 -- The theorems know rules by these two relations alone, so that later another list, or two, can hold them.
 pub record Net : Type 1 where
   pub nodes : ℕ
@@ -22,7 +22,7 @@ pub record Net : Type 1 where
   pub Leaf : ℕ → ℕ → ℕ → Type 0  -- Leaf r A x: rule r is A → x
   pub edges : List ℕ
 
--- "A rule record is (A, B, C), or (A, x, 65535) for a label rule."
+-- the rule of record r of a list: (A, B, C) is the pair rule A → B C, and (A, x, 65535) the label rule A → x
 pub record PairRule (rules : List ℕ) (r A B C : ℕ) : Type 0 where
   pub inside : r < length rules / 3
   pub head : word rules r 0 ≡ A
@@ -61,7 +61,7 @@ pub record InEdge (g : Net) (i j : ℕ) : Type 0 where
   pub from : i < g.nodes
   pub to : j < g.nodes
 
--- what the theorems ask of a net: numbers within document 01's limits, and one rule to a number and a head
+-- what the theorems ask of a net: numbers within their limits, and one rule to a number and a head
 pub record Sane (g : Net) : Type 0 where
   pub nodes : g.nodes ≤ 64
   pub nonterminals : g.nonterminals ≤ 32

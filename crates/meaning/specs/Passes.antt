@@ -3,7 +3,7 @@ use Rattle.std.specs.Prelude.{List, [], ◌∷◌, ◌++◌, Bool, false, cond, 
 use Rattle.meaning.specs.Net.{word}
 use Rattle.meaning.specs.Steps.{Step, step, wins}
 
--- "A single step takes a pair rule and i, k, j": the step of rule r of a list
+-- the step that rule r of a list takes at the nodes i, k, j
 unfoldable pub ask_of : List ℕ → ℕ → ℕ → ℕ → ℕ → Step
 ask_of rules r i k j = record {
   rule = r;

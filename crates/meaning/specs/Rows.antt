@@ -6,11 +6,11 @@ use Rattle.meaning.specs.Trees.{Reached}
 abbrev pub bit : ℕ → ℕ → ℕ
 bit w j = w / 2 ^ j % 2
 
--- "64-bit word A × nodes + i"
+-- the row of A and i: word A × n + i of the rows
 abbrev pub row_at : ℕ → List ℕ → ℕ → ℕ → ℕ
 row_at n rs A i = get_or rs (A * n + i) 0
 
--- bit j is set exactly if some path from i to j spells a word derived from A; "bits from the node count up are clear"
+-- bit j of a row is 1 exactly where (A, i, j) is reached, and no bit from the number of nodes on is set
 pub record Row (g : Net) (A i w : ℕ) : Type 0 where
   pub bits : (j : ℕ) → j < g.nodes → (bit w j ≡ 1) ↔ Reached g A i j
   pub clear : w < 2 ^ g.nodes

@@ -6,7 +6,7 @@ use Rattle.meaning.specs.Net.{Net}
 use Rattle.meaning.specs.Trees.{joined}
 use Rattle.meaning.specs.Table.{cell}
 
--- "A single step takes a pair rule and i, k, j": rule is the number of the rule head → left right
+-- a step: the pair rule head → left right with its number, and the nodes i, k, j as from, middle, to
 pub record Step : Type 0 where
   pub rule : ℕ
   pub head : ℕ
@@ -38,24 +38,24 @@ right_of n s = cell n s.right s.middle s.to
 unfoldable pub offer : ℕ → List ℕ → Step → ℕ
 offer n t s = candidate (get_or t (left_of n s) 0) (get_or t (right_of n s) 0) s.middle s.rule
 
--- "Where both sides are filled, it writes the candidate key into (A,i,j) if that is smaller than what stands there; no other word moves."
+-- the table after a step: the smaller of its target's word and the candidate key in the target, every other word as it was
 unfoldable pub step : ℕ → List ℕ → Step → List ℕ
 step n t s = set t (target_of n s) (min (get_or t (target_of n s) 0) (offer n t s))
 
--- "It answers changed or unchanged."
+-- whether the step changes the table: the candidate is below the word of the target
 unfoldable pub wins : ℕ → List ℕ → Step → Bool
 wins n t s = ltb (offer n t s) (get_or t (target_of n s) 0)
 
--- "must each be empty or have height 1 to 131,072, middle below nodes and rule below the rule count"
+-- the words of a target or side that a step works with: EMPTY, or height 1 to 131,072, middle a node and rule a rule of the list
 unfoldable pub usable : ℕ → ℕ → ℕ → Bool
 usable n rules v =
     eqb v EMPTY || (leb 1 (height_of v) && leb (height_of v) HIGHEST && ltb (middle_of v) n && ltb (rule_of v) rules)
 
--- 12: "a winning key would have height over 131,072"
+-- refusal 12, TooHigh: the step would write a key of a height above 131,072
 unfoldable pub too_high : ℕ → List ℕ → Step → Bool
 too_high n t s = wins n t s && ltb HIGHEST (height_of (offer n t s))
 
--- neither 11 nor 12
+-- neither refusal 11, WrongCell, nor 12, TooHigh
 pub record Accepted (g : Net) (t : List ℕ) (s : Step) : Type 0 where
   pub target : usable g.nodes g.rules (get_or t (target_of g.nodes s) 0) ≡ true
   pub left : usable g.nodes g.rules (get_or t (left_of g.nodes s) 0) ≡ true
@@ -76,7 +76,7 @@ abbrev pub All : (Step → Type 0) → List Step → Type 0
 All P [] = Unit {0}
 All P (s ∷ ss) = P s × All P ss
 
--- "Call a stretch a pass when it holds every possible step at least once."
+-- a pass: a stretch of possible steps in which every possible step stands at least once
 pub record Pass (g : Net) (ss : List Step) : Type 0 where
   pub only : All (Possible g) ss
   pub every : (s : Step) → Possible g s → Memᴰ s ss
@@ -85,6 +85,6 @@ abbrev pub Passes : Net → List (List Step) → Type 0
 Passes g [] = Unit {0}
 Passes g (ss ∷ more) = Pass g ss × Passes g more
 
--- "a table that no step would change"
+-- a still table: no possible step would change it
 pub record Still (g : Net) (t : List ℕ) : Type 0 where
   pub step : (s : Step) → Possible g s → step g.nodes t s ≡ t

@@ -4,7 +4,7 @@ use Rattle.key.specs.Keys.{EMPTY, key, height_of}
 use Rattle.meaning.specs.Net.{Net, Edge}
 use Rattle.meaning.specs.Trees.{Tree, key_of}
 
--- "Cell number: (A × nodes + i) × nodes + j."
+-- the number of cell (A, i, j) among n nodes: by A, then i, then j
 unfoldable pub cell : ℕ → ℕ → ℕ → ℕ → ℕ
 cell n A i j = (A * n + i) * n + j
 
@@ -23,7 +23,7 @@ cells g = cell_count g.nodes g.nonterminals
 abbrev pub Each : Net → (ℕ → ℕ → ℕ → Type 0) → Type 0
 Each g P = (A i j : ℕ) → A < g.nonterminals → i < g.nodes → j < g.nodes → P A i j
 
--- "height 1, if some edge i → j has label x and A → x is a rule: middle i"
+-- κ is a height 1 key of (A, i, j): an edge from i to j has the label of a label rule r for A; the middle is i
 pub record LeafKey (g : Net) (A i j κ : ℕ) : Type 0 where
   pub r : ℕ
   pub x : ℕ
@@ -32,7 +32,7 @@ pub record LeafKey (g : Net) (A i j κ : ℕ) : Type 0 where
   pub edge : Edge g.edges e i x j
   pub is : κ ≡ key 1 i r
 
--- "The start fills the height 1 cells and empties the others", each with "the lowest such rule"
+-- what the start leaves in a cell: the least of its height 1 keys, that is with the lowest rule, or EMPTY where it has none
 pub record StartCell (g : Net) (A i j v : ℕ) : Type 0 where
   pub real : (v ≡ EMPTY) ⊎ LeafKey g A i j v
   pub least : (κ : ℕ) → LeafKey g A i j κ → v ≤ κ
@@ -47,7 +47,7 @@ pub record Real (g : Net) (A i j v : ℕ) : Type 0 where
   pub is : v ≡ key_of tree
   pub low : v < EMPTY
 
--- demand 3: "each filled cell has a real path with a tree of the recorded height"
+-- a sound cell: empty, or filled with the key of some tree, so that a path with a tree of this height exists
 abbrev pub Sound : Net → ℕ → ℕ → ℕ → ℕ → Type 0
 Sound g A i j v = (v ≡ EMPTY) ⊎ Real g A i j v
 

@@ -3,11 +3,11 @@ use Rattle.std.specs.Prelude.{◌≡◌, List, [], ◌∷◌, ◌++◌, ℕ, ◌
 use Rattle.key.specs.Keys.{key}
 use Rattle.meaning.specs.Net.{Net, Edge, word}
 
--- "a pair rule has 1 + the larger height of its two sides"
+-- the height of a tree whose root is a pair rule, from the heights of its two sides
 unfoldable pub joined : ℕ → ℕ → ℕ
 joined a b = 1 + max a b
 
--- Derives g A h w: a derivation tree of height h from A over the word w; "a label rule alone has height 1"
+-- Derives g A h w: a derivation tree of height h from A over the word w; a tree of one label rule has height 1
 pub data Derives (g : Net) : ℕ → ℕ → List ℕ → Type 0 where
   by_label : {A x : ℕ} (r : ℕ) → g.Leaf r A x → Derives g A 1 (x ∷ [])
   by_pair : {A B C a b : ℕ} {u v : List ℕ} (r : ℕ) → g.Pair r A B C → Derives g B a u → Derives g C b v
@@ -28,13 +28,13 @@ pub record Reach (g : Net) (A i j h : ℕ) (p : List ℕ) : Type 0 where
   pub path : Path g i j p
   pub tree : Derives g A h (spell g p)
 
--- "some path from i to j spells a word derived from A"
+-- (A, i, j) is reached: a path from i to j spells a word that A derives
 pub record Reached (g : Net) (A i j : ℕ) : Type 0 where
   pub height : ℕ
   pub edges : List ℕ
   pub reach : Reach g A i j height edges
 
--- h is "the least height of a derivation tree"
+-- h is the least height of a tree from A over a word that a path from i to j spells
 pub record Least (g : Net) (A i j h : ℕ) : Type 0 where
   pub edges : List ℕ
   pub reach : Reach g A i j h edges

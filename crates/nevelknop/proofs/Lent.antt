@@ -1,40 +1,42 @@
 -- Words of lent bytes in a local array, and back. Assumes nothing.
-use mathlib.Core.Path.{◌≡◌, refl, ap, ◌∙◌}
-use mathlib.Core.List.{List}
+use mathlib.Core.Path.{◌≡◌, refl, sym, ap, ◌∙◌}
+use mathlib.Core.List.{List, map}
 use Prim.Native.Nat.{ℕ, ◌/◌, ◌≤◌, ◌<◌, min}
 use native.Mathlib.Omega.{arith}
 use lib.ListN.{length, get_or, take, replicate, length-replicate}
 use lib.Seq.{take_all}
-use Rattle.words.specs.declared.Check.{Check}
-use Rattle.words.specs.declared.Check.TheVariants.{Good, Bad}
+use Rattle.std.proofs.lemmas.List.{length-map, take-map}
+use Rattle.words.specs.declared.Refusal.{Refusal}
 use Rattle.words.specs.Tab.{over}
 use Rattle.words.proofs.Tab.{take-over}
+use Rattle.words.specs.Refusals.{Check}
+use Rattle.std.specs.Prelude.{Result, Ok, Err}
 use Rattle.packing.specs.Packed.{unpacked, packed, unpacked_into, packed_into}
 use Rattle.packing.proofs.Packed.{repacked}
 use Rattle.meaning.specs.Net.{Net}
-use Rattle.closure.specs.declared.RunAnswer.{RunAnswer}
 use Rattle.closure.specs.Runs.{RunIs}
 use Rattle.nevelknop.specs.Calls.{words_of, cell_words, run_number, RunBytes}
 use Rattle.nevelknop.proofs.Orders.{length-unpacked}
-
--- what fits into an array of m words fits into what a call left of it; said apart, so that no proof searches its whole context for it
-pub within : {n m k : ℕ} → n ≤ m → k ≡ m → n ≤ k
-within h e = omega arith
-
-pub cells_within : (words : ℕ) {n m : ℕ} → n ≡ min words 2048 → m ≡ 2048 → n ≤ m
-cells_within words h e = omega arith
 
 -- what is unpacked into an array t, up to the last word that fits
 front : (k : ℕ) (s t u : List ℕ) (n : ℕ) → u ≡ unpacked_into k s t → n ≡ min (length s / k) (length t) → take n u ≡ unpacked k s n
 front k s t u n e h = rw (e, ← h) (take-over (unpacked k s n) t n (length-unpacked k s n))
 
--- the words of a whole list, in an array of m words
-pub lists_front : (k : ℕ) (s u : List ℕ) (m : ℕ) → u ≡ unpacked_into k s (replicate m 0) → length s / k ≤ m → take (length s / k) u ≡ words_of k s
-lists_front k s u m e h = front k s (replicate m 0) u (length s / k) e (rw length-replicate (omega arith))
+-- the same of words whose numbers are `values`
+module _ {W : Type 0} (value : W → ℕ) (values : List W → List ℕ) (each : (l : List W) → values l ≡ map value l) where
+  pub front_words : (k : ℕ) (s : List ℕ) (t u : List W) (n : ℕ) → values u ≡ unpacked_into k s (values t) → n ≡ min (length s / k) (length t)
+      → values (take n u) ≡ unpacked k s (min (length s / k) (length t))
+  front_words k s t u n e h =
+      let m : n ≡ min (length s / k) (length (values t)) = rw (each, length-map) h in
+      each (take n u) ∙ sym (take-map value n u) ∙ rw (← each u, ← h) (front k s (values t) (values u) n e m)
 
--- the words of a table or of lengths
-pub cells_front : (k : ℕ) (s u : List ℕ) (n : ℕ) → u ≡ unpacked_into k s (replicate 2048 0) → n ≡ min (length s / k) 2048 → take n u ≡ cell_words k s
-cells_front k s u n e h = rw h (front k s (replicate 2048 0) u (min (length s / k) 2048) e refl)
+-- the words of a whole list, in an array of m words
+pub lists_front : (k : ℕ) (s : List ℕ) (m : ℕ) → length s / k ≤ m → unpacked k s (min (length s / k) m) ≡ words_of k s
+lists_front k s m h = let e : min (length s / k) m ≡ length s / k = omega arith in rw e
+
+-- the words of a table or of lengths, in an array of 2,048
+pub cells_front : (k : ℕ) (s u : List ℕ) → u ≡ unpacked k s (min (length s / k) (length {A = ℕ} (replicate 2048 0))) → u ≡ cell_words k s
+cells_front k s u e = e ∙ rw length-replicate
 
 -- all words of a list that fits are packed
 pub packs : (k : ℕ) (ws s : List ℕ) → length ws ≤ length s / k → packed_into k ws s ≡ over (packed k ws) s
@@ -51,15 +53,15 @@ Bytes s = (i : ℕ) → get_or s i 0 < 256
 
 -- the run on the words of a table and lengths, packed again: where it is refused its words are the same, and so are the bytes
 pub run_bytes :
-    (own : Check) {g : Net} {table lengths table' lengths' : List ℕ} (t' ls' : List ℕ) (a : RunAnswer) →
+    (own : Check) {g : Net} {table lengths table' lengths' : List ℕ} (t' ls' : List ℕ) (a : Result ℕ Refusal) →
     Bytes table →
     Bytes lengths →
     RunIs own g (cell_words 8 table) (cell_words 4 lengths) t' ls' a →
     table' ≡ over (packed 8 t') table →
     lengths' ≡ over (packed 4 ls') lengths →
     RunBytes own g table lengths table' lengths' (run_number a)
-run_bytes Good t' ls' a bt bl i et el = RunBytes.ran a t' ls' refl i refl et el
-run_bytes (Bad r) {table = table} {lengths = lengths} t' ls' a bt bl i et el =
+run_bytes (Ok _) t' ls' a bt bl i et el = RunBytes.ran a t' ls' refl i refl et el
+run_bytes (Err r) {table = table} {lengths = lengths} t' ls' a bt bl i et el =
     RunBytes.refused r refl (ap run_number i.0)
     (et ∙ rw i.1.table (repacked 8 table (min (length table / 8) 2048) bt (omega arith)))
     (el ∙ rw i.1.lengths (repacked 4 lengths (min (length lengths / 4) 2048) bl (omega arith)))

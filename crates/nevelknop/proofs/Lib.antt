@@ -3,5 +3,6 @@ pub mod Orders
 pub mod Places
 pub mod Lent
 pub mod Windows
+pub mod Told
 pub mod Settled
 pub mod Says

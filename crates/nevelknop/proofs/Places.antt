@@ -6,53 +6,42 @@ use native.Mathlib.Omega.{arith}
 use mathlib.Core.Bool.{Bool}
 use lib.Dec.{leb}
 use lib.ListN.{length}
-use Rattle.words.specs.declared.Check.{Check}
-use Rattle.words.specs.declared.Check.TheVariants.{Good, Bad}
 use Rattle.words.specs.declared.Refusal.{Refusal}
-use Rattle.words.specs.Refusals.{must}
-use Rattle.words.proofs.Refusals.{Only, only_must, only_and, only_scan, and_good}
+use Rattle.words.specs.Refusals.{must, Check, Good}
+use Rattle.words.proofs.Refusals.{Only, only_must, only_and, only_scan, and_good, good_bad}
+use Rattle.std.specs.Prelude.{Result, Ok, Err}
+use Rattle.words.specs.declared.Reason.TheVariants.{WrongCount, TooShort, WrongCell, TooLarge, NoPath, WrongArgument}
+use Rattle.words.specs.declared.Reason.{Reason}
 use Rattle.meaning.specs.Table.{cell}
 use Rattle.meaning.proofs.Cells.{cell_in}
 use Rattle.numbers.specs.declared.Numbers.{Numbers}
-use Rattle.numbers.specs.Numbers.{limits_check, large_check, room_check}
+use Rattle.numbers.specs.Numbers.{large_check, room_check}
 use Rattle.lists.specs.Lists.{net, lists_check}
 use Rattle.lists.proofs.Right.{accepted, few_cells, sane}
 use Rattle.lists.proofs.Given.{given_only}
-use Rattle.closure.specs.declared.RunAnswer.{RunAnswer}
-use Rattle.closure.specs.declared.RunAnswer.TheVariants.{Depth, Refused}
 use Rattle.closure.specs.Runs.{run_check, RunIs}
 use Rattle.closure.proofs.Settled.{never_12}
 use Rattle.witness.specs.Answers.{cell_check, table_check, arguments_check, path_check, window_check, witness_check}
 use Rattle.witness.proofs.Accepts.{asked}
 use Rattle.nevelknop.specs.Calls.{bytes_check, call_check}
-use Rattle.nevelknop.specs.Inner.{Placed}
-use Rattle.nevelknop.proofs.Orders.{counts, ready}
+use Rattle.nevelknop.specs.Inner.{PlaceFits, given_check}
 
 abbrev pub Low : Refusal → Type 0
 Low r = r.place < 2 ^ 32
 
 -- a check at a small place
-low_must : (b : Bool) (k p : ℕ) → p < 4096 → Only Low (must b k p)
+low_must : (b : Bool) (k : Reason) (p : ℕ) → p < 4096 → Only Low (must b k p)
 low_must b k p h = only_must Low b k p (omega arith)
 
 low_room : (p want have : ℕ) → p < 4096 → Only Low (room_check p want have)
 unfolding room_check
-low_room p want have h = low_must (leb want have) 10 p h
+low_room p want have h = low_must (leb want have) TooShort p h
 
 pub low_records : (rules edges : ℕ) → Only Low (bytes_check rules edges)
 unfolding bytes_check
-low_records rules edges = only_and Low _ _ (low_must _ 5 0 (omega arith)) (λ _. low_must _ 5 1 (omega arith))
+low_records rules edges = only_and Low _ _ (low_must _ WrongCount 0 (omega arith)) (λ _. low_must _ WrongCount 1 (omega arith))
 
 module _ (numbers : Numbers) where
-  pub low_counts : (rules edges : ℕ) → Only Low (counts numbers rules edges)
-  unfolding limits_check
-  low_counts rules edges =
-      only_and Low _ _ (low_records rules edges)
-      (λ _. only_and Low _ _ (low_must _ 4 0 (omega arith))
-      (λ _. only_and Low _ _ (low_must _ 4 1 (omega arith))
-      (λ _. only_and Low _ _ (low_must _ 4 2 (omega arith))
-      (λ _. only_and Low _ _ (low_must _ 4 4 (omega arith)) (λ _. low_must _ 4 5 (omega arith))))))
-
   module _ (rules edges : List ℕ) where
     low_lists : Only Low (lists_check numbers rules edges)
     low_lists r e = let h = given_only numbers rules edges r e in omega arith
@@ -60,11 +49,8 @@ module _ (numbers : Numbers) where
     low_large : Only Low (large_check numbers (length edges / 3))
     unfolding large_check
     low_large =
-        only_and Low _ _ (low_must _ 13 0 (omega arith))
-        (λ _. only_and Low _ _ (low_must _ 13 1 (omega arith)) (λ _. low_must _ 13 5 (omega arith)))
-
-    pub low_words : Only Low (ready numbers rules edges)
-    low_words = only_and Low _ _ low_lists (λ _. low_large)
+        only_and Low _ _ (low_must _ TooLarge 0 (omega arith))
+        (λ _. only_and Low _ _ (low_must _ TooLarge 1 (omega arith)) (λ _. low_must _ TooLarge 5 (omega arith)))
 
     -- every refusal of a call
     pub low_call : {records own : Check} → Only Low records → Only Low own → Only Low (call_check records numbers rules edges own)
@@ -78,12 +64,12 @@ module _ (numbers : Numbers) where
         (λ _. only_and Low _ _ (low_room 0 _ _ (omega arith)) (λ _. low_room 1 _ _ (omega arith)))
 
     -- 12 is never given
-    pub run_placed : (own : Check) (t ls t' ls' : List ℕ) (a : RunAnswer) → own ≡ run_check numbers rules edges (length t) (length ls)
-        → RunIs own (net numbers rules edges) t ls t' ls' a → Placed a
+    pub run_placed : (own : Check) (t ls t' ls' : List ℕ) (a : Result ℕ Refusal) → own ≡ run_check numbers rules edges (length t) (length ls)
+        → RunIs own (net numbers rules edges) t ls t' ls' a → PlaceFits a
     unfolding run_check
-    run_placed Good t ls t' ls' (Depth d) e i = tt
-    run_placed Good t ls t' ls' (Refused r) e i = absurd (never_12 (sane numbers rules edges (accepted numbers rules edges ((and_good _ _).0 (sym e)).0)) i.high)
-    run_placed (Bad r) t ls t' ls' a e i = rw i.0 (low_run (length t) (length ls) r (sym e))
+    run_placed (Ok _) t ls t' ls' (Ok d) e i = tt
+    run_placed (Ok _) t ls t' ls' (Err r) e i = absurd (never_12 (sane numbers rules edges (accepted numbers rules edges ((and_good _ _).0 (sym e)).0)) i.high)
+    run_placed (Err r) t ls t' ls' a e i = rw i.0 (low_run (length t) (length ls) r (sym e))
 
     -- 11 and 14 name a cell
     low_window : (t ls : List ℕ) (a i j : ℕ) → Only Low (window_check numbers rules edges a i j t ls)
@@ -95,22 +81,26 @@ module _ (numbers : Numbers) where
       where
         low_arguments : Only Low (arguments_check numbers a i j)
         low_arguments =
-            only_and Low _ _ (low_must _ 15 0 (omega arith))
-            (λ _. only_and Low _ _ (low_must _ 15 1 (omega arith)) (λ _. low_must _ 15 2 (omega arith)))
+            only_and Low _ _ (low_must _ WrongArgument 0 (omega arith))
+            (λ _. only_and Low _ _ (low_must _ WrongArgument 1 (omega arith)) (λ _. low_must _ WrongArgument 2 (omega arith)))
 
         low_table : lists_check numbers rules edges ≡ Good → Only Low (table_check numbers rules edges t ls)
         low_table g =
             only_and Low _ _ (low_room 0 _ _ (omega arith))
             (λ _. only_and Low _ _ (low_room 1 _ _ (omega arith))
-            (λ _. only_scan Low _ _ (λ c h. only_must Low _ 11 c (omega (arith, h, few_cells numbers rules edges (accepted numbers rules edges g))))))
+            (λ _. only_scan Low _ _ (λ c h. only_must Low _ WrongCell c (omega (arith, h, few_cells numbers rules edges (accepted numbers rules edges g))))))
 
         low_path : lists_check numbers rules edges ≡ Good → arguments_check numbers a i j ≡ Good → Only Low (path_check numbers.nodes a i j t ls)
         low_path g h =
             let k = asked numbers rules edges a i j ((and_good _ _).1 (g, h)) in
             let c = cell_in numbers.nodes numbers.nonterminals a i j k.head k.from k.to in
-            only_and Low _ _ (only_must Low _ 14 (cell numbers.nodes a i j) (omega (arith, c, few_cells numbers rules edges (accepted numbers rules edges g))))
-            (λ _. low_must _ 10 2 (omega arith))
+            only_and Low _ _ (only_must Low _ NoPath (cell numbers.nodes a i j) (omega (arith, c, few_cells numbers rules edges (accepted numbers rules edges g))))
+            (λ _. low_must _ TooShort 2 (omega arith))
 
     pub low_witness : (t ls : List ℕ) (a i j words : ℕ) → Only Low (witness_check numbers rules edges a i j t ls words)
     unfolding witness_check
     low_witness t ls a i j words = only_and Low _ _ (low_window t ls a i j) (λ _. low_room 2 _ _ (omega arith))
+
+  -- those that do not depend on the call
+  pub low_given : (rules edges : List ℕ) → Only Low (given_check numbers rules edges)
+  low_given rules edges = low_call _ _ (low_records _ _) (λ r e. absurd (good_bad e))

@@ -1,17 +1,17 @@
 -- Each call's promise settles its answer and every lent byte: two outcomes that meet it are equal. Assumes nothing.
-use mathlib.Core.Path.{◌≡◌, sym, ap, ◌∙◌}
+use mathlib.Core.Path.{◌≡◌, sym, ap, subst, ◌∙◌}
 use mathlib.Core.List.{List}
 use Prim.Native.Nat.{ℕ}
 use lib.ListN.{length}
-use Rattle.words.specs.declared.Check.{Check}
-use Rattle.words.specs.declared.Check.TheVariants.{Good}
 use Rattle.words.specs.Tab.{over}
 use Rattle.packing.specs.Packed.{packed}
 use Rattle.words.proofs.Refusals.{good_bad, bad_same, and_good}
+use Rattle.words.specs.Refusals.{Check, Good}
 use Rattle.meaning.proofs.Recorded.{recorded_one}
 use Rattle.numbers.specs.declared.Numbers.{Numbers}
-use Rattle.lists.specs.Lists.{lists_check}
+use Rattle.lists.specs.Lists.{net, lists_check}
 use Rattle.lists.proofs.Right.{accepted, sane}
+use Rattle.closure.specs.Runs.{RunIs}
 use Rattle.closure.proofs.Settled.{run_settled}
 use Rattle.nevelknop.specs.Calls.{cell_words, call_check, run_number, refusal_number, RunBytes, WitnessBytes, RunOn, WitnessOn}
 
@@ -39,7 +39,9 @@ module _ (records : Check) (numbers : Numbers) (rules edges : List ℕ) where
   run_one table lengths (RunBytes.ran b u k f i c v j) (RunBytes.refused r e a t l) = absurd (good_bad (sym f ∙ e))
   run_one table lengths (RunBytes.ran a t l e i n u k) (RunBytes.ran b v j f h m w q) =
       let own = sym (call_good e).1 in
-      let same = run_settled numbers rules edges (cell_words 8 table) (cell_words 4 lengths) t l v j a b (rw own at i) (rw own at h) in
+      let same = run_settled numbers rules edges (cell_words 8 table) (cell_words 4 lengths) t l v j a b
+      (subst (λ c. RunIs c (net numbers rules edges) (cell_words 8 table) (cell_words 4 lengths) t l a) own i)
+      (subst (λ c. RunIs c (net numbers rules edges) (cell_words 8 table) (cell_words 4 lengths) v j b) own h) in
       record {
         answer = n ∙ ap run_number same.answer ∙ sym m;
         tables = u ∙ ap (λ t. over (packed 8 t) table) same.table ∙ sym w;

@@ -1,21 +1,21 @@
 // What C calls, through nevelknop_c: the run and the witness on numbers and byte slices, words packed little-endian and checked inside.
-// Both take any input. The lists' words go into local arrays, which 4 keeps large enough; so do the table's and the
-// lengths' words, of which 13 lets no call need more than 2,048.
+// Both take any input. The words go into local arrays: the limits of rules and edges keep these large enough for the lists,
+// and no call that is not too large needs more than 2,048 words of a table or of lengths.
 #![tactic(auto)]
 
-ghost use Rattle.nevelknop.specs.Calls.{numbers_of, RunCall, WitnessCall};
+ghost use Rattle.nevelknop.specs.Calls.{given_numbers, RunCall, WitnessCall};
 
-use checks::{counts_check, numbers_of, refusal};
-use packing::unpack16;
-use running::run_lists;
-use walking::witness_lists;
-use words::Check;
+use answers::answer;
+use given::ByteLists;
+use running::run_bytes;
+use walking::{Arguments, witness_bytes};
 
-mod checks;
+mod answers;
+mod given;
 mod running;
 mod walking;
 
-// Closes a table: document 01's run. include/nevelknop.h says the same to C.
+// Closes a table and fills its lengths. include/nevelknop.h says the same to C.
 pub fn nevelknop_run(
     nodes: u32,
     nonterminals: u32,
@@ -25,23 +25,13 @@ pub fn nevelknop_run(
     table: &mut [u8],
     lengths: &mut [u8],
 ) -> u64
-    ensures { RunCall (numbers_of nodes nonterminals labels) rules.now edges.now table.old lengths.old table.new lengths.new result }
+    ensures { RunCall (given_numbers nodes nonterminals labels) rules.now edges.now table.old lengths.old table.new lengths.new result }
 {
-    let numbers = numbers_of(nodes, nonterminals, labels);
-    let counted = counts_check(numbers, rules.len(), edges.len());
-    if let Check::Bad(r) = counted {
-        return refusal(r);
-    }
-    let mut r = [0u16; 768];
-    let mut e = [0u16; 12288];
-    let n = rules.len() / 2;
-    let m = edges.len() / 2;
-    unpack16(rules, &mut r);
-    unpack16(edges, &mut e);
-    run_lists(numbers, &r[..n], &e[..m], table, lengths)
+    let given = ByteLists::new(nodes, nonterminals, labels, rules, edges);
+    answer(run_bytes(given, table, lengths))
 }
 
-// Writes the path of cell (a, i, j) out of a table that is checked first: document 01's witness.
+// Writes the path of cell (a, i, j) out of a table that is checked first. include/nevelknop.h says the same to C.
 pub fn nevelknop_witness(
     nodes: u32,
     nonterminals: u32,
@@ -55,28 +45,13 @@ pub fn nevelknop_witness(
     lengths: &[u8],
     path: &mut [u8],
 ) -> u64
-    ensures { WitnessCall (numbers_of nodes nonterminals labels) rules.now edges.now a i j table.now lengths.now path.old path.new result }
+    ensures { WitnessCall (given_numbers nodes nonterminals labels) rules.now edges.now a i j table.now lengths.now path.old path.new result }
 {
-    let numbers = numbers_of(nodes, nonterminals, labels);
-    let counted = counts_check(numbers, rules.len(), edges.len());
-    if let Check::Bad(r) = counted {
-        return refusal(r);
-    }
-    let mut r = [0u16; 768];
-    let mut e = [0u16; 12288];
-    let n = rules.len() / 2;
-    let m = edges.len() / 2;
-    unpack16(rules, &mut r);
-    unpack16(edges, &mut e);
-    witness_lists(
-        numbers,
-        &r[..n],
-        &e[..m],
-        a as usize,
-        i as usize,
-        j as usize,
-        table,
-        lengths,
-        path,
-    )
+    let given = ByteLists::new(nodes, nonterminals, labels, rules, edges);
+    let at = Arguments {
+        a: a as usize,
+        i: i as usize,
+        j: j as usize,
+    };
+    answer(witness_bytes(given, at, table, lengths, path))
 }

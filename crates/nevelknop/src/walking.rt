@@ -1,155 +1,80 @@
 // The witness on a table and lengths in bytes. No local array holds every path, so the path's bytes are written window by window.
-ghost use Rattle.std.specs.Prelude.{◌≡◌, ◌*◌, ◌/◌, ◌≤◌, length};
-ghost use Rattle.words.specs.declared.Check.TheVariants.{Good};
-ghost use Rattle.meaning.specs.Table.{at as word_at};
-ghost use Rattle.lists.specs.Lists.{net};
-ghost use Rattle.witness.specs.Answers.{window_check, witness_check};
-ghost use Rattle.witness.specs.Walks.{Asked};
-ghost use Rattle.nevelknop.specs.Calls.{WitnessBytes, WitnessOn};
-ghost use Rattle.nevelknop.specs.Inner.{OneWindow, WholePath};
+ghost use Rattle.std.specs.Prelude.{◌*◌, ◌≤◌, length};
+ghost use Rattle.nevelknop.specs.Calls.{cell_words, WitnessCall};
+ghost use Rattle.nevelknop.specs.Inner.{OneWindow, PathTold, Told, net_of_path};
 
-use crate::checks::{refusal, words_check};
-use meaning::{cell, length_at};
-use numbers::{Numbers, room};
-use packing::{pack16, shorter, unpack32, unpack64};
-use witness::{WitnessAnswer, window};
-use words::Check;
+use crate::given::{ByteLists, CELLS, ListWords, unpack_front};
+use lists::Lists;
+use numbers::room;
+use packing::pack;
+use witness::RecordedPath;
+use words::Refusal;
 
-fn length_of(numbers: Numbers, a: usize, i: usize, j: usize, lengths: &[u32]) -> u32
-    requires { Asked numbers a i j }
-    ensures { result ≡ word_at numbers.nodes lengths.now a i j }
-{
-    length_at(
-        lengths,
-        cell(numbers.nodes as u16, a as u16, i as u16, j as u16),
-    )
+// How many edges a window of the path has.
+const WINDOW: usize = 16384;
+
+// The cell that a witness is asked for: a nonterminal and two nodes.
+#[derive(Clone, Copy)]
+pub(crate) struct Arguments {
+    pub(crate) a: usize,
+    pub(crate) i: usize,
+    pub(crate) j: usize,
 }
 
-// What a witness is refused for, before a byte is written: a window's own refusals, then the room for so many words.
-fn witness_check(
-    numbers: Numbers,
-    rules: &[u16],
-    edges: &[u16],
-    a: usize,
-    i: usize,
-    j: usize,
-    table: &[u64],
-    lengths: &[u32],
-    words: usize,
-) -> Check
-    ensures { result ≡ witness_check numbers rules.now edges.now a i j table.now lengths.now words }
+// Writes the path's edges from number `from` on, as many as a window holds.
+#[tactic(auto, using(crate::proofs::Windows::answer_short))]
+fn write_window(found: RecordedPath, from: usize, path: &mut [u8])
+    requires { 2 * from ≤ length path.old }
+    ensures { OneWindow (net_of_path found.entry.held) found.entry.held.table.now found.entry.spot.a found.entry.spot.i found.entry.spot.j from path.old path.new }
 {
-    let mut first = [0u16; 1];
-    let answer = window(
-        numbers, rules, edges, a, i, j, table, lengths, 0, &mut first,
-    );
-    match answer {
-        WitnessAnswer::Wrote(_) => room(2, length_of(numbers, a, i, j, lengths) as usize, words),
-        WitnessAnswer::Refused(r) => Check::Bad(r),
+    let mut part = [0u16; WINDOW];
+    let count = found.window(from, &mut part);
+    let at = 2 * from;
+    pack(&part[..count], &mut path[at..]);
+}
+
+// Writes the whole path, if the bytes have room for it. Answers how many edges.
+fn write_path(found: RecordedPath, path: &mut [u8]) -> Result<u32, Refusal>
+    ensures { PathTold found.entry.held.lists.numbers found.entry.held.lists.rules.now found.entry.held.lists.edges.now found.entry.held.table.now found.entry.held.lengths.now found.entry.spot.a found.entry.spot.i found.entry.spot.j path.old path.new result }
+{
+    let many = found.length();
+    let edges = many as usize;
+    room(2, edges, path.len() / 2)?;
+    for w in 0..edges.div_ceil(WINDOW) {
+        write_window(found, w * WINDOW, path);
     }
+    Ok(many)
 }
 
-// Writes the path's edges from number `from` on, as many as a window holds. Answers how many.
-fn write_window(
-    numbers: Numbers,
-    rules: &[u16],
-    edges: &[u16],
-    a: usize,
-    i: usize,
-    j: usize,
-    table: &[u64],
-    lengths: &[u32],
-    from: usize,
-    path: &mut [u8],
-) -> usize
-    requires lengths_value { window_check numbers rules.now edges.now a i j table.now lengths.now ≡ Good }
-    requires from_in_bounds { 2 * from ≤ length path.old }
-    ensures { OneWindow (net numbers rules.now edges.now) table.now a i j from path.old path.new result }
-{
-    let mut part = [0u16; 16384];
-    let answer = window(
-        numbers, rules, edges, a, i, j, table, lengths, from, &mut part,
-    );
-    match answer {
-        WitnessAnswer::Wrote(n) => {
-            let at = 2 * from;
-            pack16(&part[..n], &mut path[at..]);
-            n
-        }
-        WitnessAnswer::Refused(_) => 0,
-    }
-}
-
-// Writes the whole path, which has so many edges.
-fn write_path(
-    numbers: Numbers,
-    rules: &[u16],
-    edges: &[u16],
-    a: usize,
-    i: usize,
-    j: usize,
-    table: &[u64],
-    lengths: &[u32],
-    many: usize,
-    path: &mut [u8],
-)
-    requires lengths_value { window_check numbers rules.now edges.now a i j table.now lengths.now ≡ Good }
-    requires many_value { (many ≡ word_at numbers.nodes lengths.now a i j) × (2 * many ≤ length path.old) }
-    ensures { WholePath (net numbers rules.now edges.now) table.now a i j path.old path.new }
-{
-    let mut from = 0;
-    while from < many {
-        from += write_window(numbers, rules, edges, a, i, j, table, lengths, from, path);
-    }
-}
-
-// The witness on words.
-fn witness_words(
-    numbers: Numbers,
-    rules: &[u16],
-    edges: &[u16],
-    a: usize,
-    i: usize,
-    j: usize,
-    table: &[u64],
-    lengths: &[u32],
-    path: &mut [u8],
-) -> u64
-    ensures { WitnessBytes (witness_check numbers rules.now edges.now a i j table.now lengths.now (length path.old / 2)) (net numbers rules.now edges.now) table.now a i j path.old path.new result }
-{
-    let words = path.len() / 2;
-    let ready = witness_check(numbers, rules, edges, a, i, j, table, lengths, words);
-    if let Check::Bad(r) = ready {
-        return refusal(r);
-    }
-    let many = length_of(numbers, a, i, j, lengths) as usize;
-    write_path(numbers, rules, edges, a, i, j, table, lengths, many, path);
-    many as u64
-}
-
-// The witness on lists of words.
-pub(crate) fn witness_lists(
-    numbers: Numbers,
-    rules: &[u16],
-    edges: &[u16],
-    a: usize,
-    i: usize,
-    j: usize,
+// The witness on lists of words: every refusal comes before the first byte.
+fn witness_lists(
+    lists: Lists,
+    at: Arguments,
     table: &[u8],
     lengths: &[u8],
     path: &mut [u8],
-) -> u64
-    ensures { WitnessOn Good numbers rules.now edges.now a i j table.now lengths.now path.old path.new result }
+) -> Result<u32, Refusal>
+    ensures { PathTold lists.entry.numbers lists.entry.rules.now lists.entry.edges.now (cell_words 8 table.now) (cell_words 4 lengths.now) at.a at.i at.j path.old path.new result }
 {
-    let right = words_check(numbers, rules, edges);
-    if let Check::Bad(r) = right {
-        return refusal(r);
-    }
-    let mut t = [0u64; 2048];
-    let mut l = [0u32; 2048];
-    let n = shorter(table.len() / 8, 2048);
-    let m = shorter(lengths.len() / 4, 2048);
-    unpack64(table, &mut t);
-    unpack32(lengths, &mut l);
-    witness_words(numbers, rules, edges, a, i, j, &t[..n], &l[..m], path)
+    let mut cells = [0u64; CELLS];
+    let mut counts = [0u32; CELLS];
+    let t = unpack_front(table, &mut cells);
+    let l = unpack_front(lengths, &mut counts);
+    let found = RecordedPath::new(lists, at.a, at.i, at.j, t, l)?;
+    write_path(found, path)
+}
+
+// The witness on lists in bytes.
+pub(crate) fn witness_bytes(
+    given: ByteLists,
+    at: Arguments,
+    table: &[u8],
+    lengths: &[u8],
+    path: &mut [u8],
+) -> Result<u32, Refusal>
+    ensures { Told (WitnessCall given.entry.numbers given.entry.rules.now given.entry.edges.now at.a at.i at.j table.now lengths.now path.old path.new) result }
+{
+    let mut words = ListWords::new();
+    let lists = words.lists(given)?;
+    witness_lists(lists, at, table, lengths, path)
 }

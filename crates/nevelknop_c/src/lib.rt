@@ -1,7 +1,7 @@
 // The C calls: each is the library's call, exported under its name. include/nevelknop.h says the same to C.
 #![tactic(auto)]
 
-ghost use Rattle.nevelknop.specs.Calls.{numbers_of, RunCall, WitnessCall};
+ghost use Rattle.nevelknop.specs.Calls.{given_numbers, RunCall, WitnessCall};
 
 #[unsafe(no_mangle)]
 pub extern "C" fn nevelknop_run(
@@ -13,7 +13,7 @@ pub extern "C" fn nevelknop_run(
     table: &mut [u8],
     lengths: &mut [u8],
 ) -> u64
-    ensures { RunCall (numbers_of nodes nonterminals labels) rules.now edges.now table.old lengths.old table.new lengths.new result }
+    ensures { RunCall (given_numbers nodes nonterminals labels) rules.now edges.now table.old lengths.old table.new lengths.new result }
 {
     nevelknop::nevelknop_run(nodes, nonterminals, labels, rules, edges, table, lengths)
 }
@@ -32,7 +32,7 @@ pub extern "C" fn nevelknop_witness(
     lengths: &[u8],
     path: &mut [u8],
 ) -> u64
-    ensures { WitnessCall (numbers_of nodes nonterminals labels) rules.now edges.now a i j table.now lengths.now path.old path.new result }
+    ensures { WitnessCall (given_numbers nodes nonterminals labels) rules.now edges.now a i j table.now lengths.now path.old path.new result }
 {
     nevelknop::nevelknop_witness(
         nodes,

@@ -5,8 +5,9 @@ use mathlib.Core.Bool.{true}
 use Prim.Native.Nat.{ℕ, ◌/◌, ◌≤◌}
 use lib.Dec.{leb}
 use borrow.Author.Tests.{leb-true, le-leb}
-use Rattle.words.specs.declared.Check.TheVariants.{Good}
 use Rattle.words.proofs.Refusals.{both, must_good, and_good}
+use Rattle.words.specs.Refusals.{Good}
+use Rattle.words.specs.declared.Reason.TheVariants.{TooShort}
 use Rattle.numbers.specs.declared.Numbers.{Numbers}
 use Rattle.numbers.specs.Numbers.{between, in_limits, limits_check, room_check}
 
@@ -24,7 +25,7 @@ between_true a b x = (
 pub room_good : (place want have : ℕ) → (room_check place want have ≡ Good) ↔ (want ≤ have)
 unfolding room_check
 room_good place want have =
-    let m = must_good (leb want have) 10 place in
+    let m = must_good (leb want have) TooShort place in
     (λ e. leb-true _ _ (m.0 e), λ h. m.1 (le-leb _ _ h))
 
 -- within their limits, lists of so many words have few records

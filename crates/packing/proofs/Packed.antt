@@ -1,16 +1,17 @@
 -- Laws of lists of words in bytes, once over the size of a word. Assumes nothing.
-use mathlib.Core.List.{List, [], ◌∷◌, ◌++◌, append_assoc, append-nil}
+use mathlib.Core.List.{List, [], ◌∷◌, ◌++◌, map, append_assoc, append-nil}
 use mathlib.Core.Path.{◌≡◌, refl, sym, ap, ◌∙◌}
 use Prim.Native.Nat.{ℕ, zero, suc, ◌+◌, ◌*◌, ◌/◌, ◌%◌, ◌^◌, ◌≤◌, ◌<◌}
-use native.Mathlib.Nat.{add_assoc, add-zero, mul-zero, mul-suc, mod-eq_of_lt, le_antisymm}
+use native.Mathlib.Nat.{add_assoc, add-zero, mul-zero, mul-suc, mul-le-mul_left, mul-div-le, mod-eq_of_lt}
 use native.Mathlib.Numerals.{add-one, one-add}
 use native.Mathlib.Omega.{arith}
 use lib.ListN.{length, get_or, set, take, drop, length-append, length-drop, length-set, take-append-drop}
 use lib.Seq.{split_at, take-suc, take-suc-set, drop-set-lt, drop-cons, take-append_seam, drop-append_seam, drop-append-add, take-add, length-take-le}
+use Rattle.std.proofs.lemmas.List.{map-set, get_or-map, length-map}
 use Rattle.words.specs.Bytes.{le_at, put_le}
 use Rattle.words.specs.Tab.{tab, over}
 use Rattle.packing.specs.Packed.{unpacked, le_bytes, packed}
-use Rattle.words.proofs.Bytes.{le_at-put_le, length-put_le}
+use Rattle.words.proofs.Bytes.{le_at-put_le}
 use Rattle.words.proofs.Tab.{tab_is, over_none, over_more, over-append}
 
 -- ---- lengths
@@ -147,56 +148,42 @@ pub repacked :
 unfolding over
 repacked k s n b h = rw (packed-unpacked k s n b h, length-take-le (k * n) s h) (take-append-drop (k * n) s)
 
--- ---- the loops over words: after w turns of n
+-- ---- the loops over words
 
-pub record Unpacking (k : ℕ) (s ws₀ : List ℕ) (n : ℕ) (ws : List ℕ) (w : ℕ) : Type 0 where
-  pub within : w ≤ n
-  pub same : length ws ≡ length ws₀
-  pub is : ws ≡ over (unpacked k s w) ws₀
-
-pub unpacking_none : (k : ℕ) (s ws : List ℕ) (n : ℕ) → Unpacking k s ws n ws 0
+pub unpack_none : (k : ℕ) (s ws : List ℕ) → ws ≡ over (unpacked k s 0) ws
 unfolding unpacked tab
-unpacking_none k s ws n = record { within = omega arith; same = refl; is = sym (over_none ws) }
+unpack_none k s ws = sym (over_none ws)
 
-pub unpacking_more :
-    {k : ℕ} {s ws₀ : List ℕ} {n : ℕ} {ws : List ℕ} {w v : ℕ} →
-    n ≤ length ws₀ →
-    Unpacking k s ws₀ n ws w →
-    w < n →
-    v ≡ le_at k s (k * w) →
-    Unpacking k s ws₀ n (set ws w v) (w + 1)
-unfolding unpacked
-unpacking_more {k} {s} {ws₀} {n} {ws} {w} {v} r u h e = record {
-  within = omega arith;
-  same = length-set ws w v ∙ u.same;
-  is = rw (u.is, e) (over_more (λ i. le_at k s (k * i)) w ws₀ (omega arith));
-}
-
-pub unpacking_all : {k : ℕ} {s ws₀ : List ℕ} {n : ℕ} {ws : List ℕ} {w : ℕ} → Unpacking k s ws₀ n ws w → n ≤ w → ws ≡ over (unpacked k s n) ws₀
-unpacking_all {w} u h = rw (le_antisymm h u.within) u.is
-
-pub record Packing (k : ℕ) (ws s₀ : List ℕ) (n : ℕ) (s : List ℕ) (w : ℕ) : Type 0 where
-  pub within : w ≤ n
-  pub same : length s ≡ length s₀
-  pub is : s ≡ over (packed k (take w ws)) s₀
-
-pub packing_none : (k : ℕ) (ws s : List ℕ) (n : ℕ) → Packing k ws s n s 0
+pub pack_none : (k : ℕ) (ws s : List ℕ) → s ≡ over (packed k (take 0 ws)) s
 unfolding packed
-packing_none k ws s n = record { within = omega arith; same = refl; is = sym (over_none s) }
+pack_none k ws s = sym (over_none s)
 
-pub packing_more :
-    {k : ℕ} {ws s₀ : List ℕ} {n : ℕ} {s t : List ℕ} {w : ℕ} →
-    n ≤ length ws →
-    k * (w + 1) ≤ length s₀ →
-    Packing k ws s₀ n s w →
-    w < n →
-    t ≡ put_le k s (k * w) (get_or ws w 0) →
-    Packing k ws s₀ n t (w + 1)
-packing_more {k} {ws} {s₀} {n} {s} {t} {w} r b u h e = record {
-  within = omega arith;
-  same = rw e (length-put_le k s (k * w) (get_or ws w 0) ∙ u.same);
-  is = e ∙ rw u.is (pack_more k ws s₀ w (omega arith) b);
-}
+-- words with a number each: of a list of them, values has the numbers
+module _ {W : Type 0} (value : W → ℕ) (values : List W → List ℕ) (each : (l : List W) → values l ≡ map value l) where
+  -- one word more is unpacked
+  pub unpack_one :
+      (k : ℕ) (s : List ℕ) (ws₀ ws : List W) (i : ℕ) (w : W) →
+      i < length ws₀ →
+      values ws ≡ over (unpacked k s i) (values ws₀) →
+      value w ≡ le_at k s (k * i) →
+      values (set ws i w) ≡ over (unpacked k s (i + 1)) (values ws₀)
+  unfolding unpacked
+  unpack_one k s ws₀ ws i w h u e =
+      let room : i < length (values ws₀) = rw (each, length-map) h in
+      each (set ws i w)
+      ∙ rw (map-set value ws i w, ← each ws, u, e) (over_more (λ j. le_at k s (k * j)) i (values ws₀) room)
 
-pub packing_all : {k : ℕ} {ws s₀ : List ℕ} {n : ℕ} {s : List ℕ} {w : ℕ} → Packing k ws s₀ n s w → n ≤ w → s ≡ over (packed k (take n ws)) s₀
-packing_all {w} u h = rw (le_antisymm h u.within) u.is
+  -- one word more is packed
+  pub pack_one :
+      (k : ℕ) (ws : List W) (s₀ s t : List ℕ) (i : ℕ) (w : W) →
+      i < length ws →
+      i < length s₀ / k →
+      s ≡ over (packed k (take i (values ws))) s₀ →
+      w ≡ get_or ws i w →
+      t ≡ put_le k s (k * i) (value w) →
+      t ≡ over (packed k (take (i + 1) (values ws))) s₀
+  pack_one k ws s₀ s t i w h r u g e =
+      let n : get_or (values ws) i 0 ≡ value w = rw each (get_or-map value ws i w 0 h ∙ ap value (sym g)) in
+      let there : i < length (values ws) = rw (each, length-map) h in
+      let room : k * (i + 1) ≤ length s₀ = rw add-one (omega (arith, mul-le-mul_left k r, mul-div-le (length s₀) k)) in
+      e ∙ rw (u, ← n) (pack_more k (values ws) s₀ i there room)

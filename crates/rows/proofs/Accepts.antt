@@ -1,23 +1,31 @@
--- An accepted call's numbers, lists and room; and each refusal of a call 'given exactly when'. Assumes nothing.
-use mathlib.Core.Path.{◌≡◌, sym}
+-- An accepted call's numbers, lists and room; and when each refusal of a call is given. Assumes nothing.
+use mathlib.Core.Path.{◌≡◌, refl, sym, ◌∙◌}
 use mathlib.Core.List.{List}
 use mathlib.Core.Logic.Iff
 use mathlib.Core.Logic.{◌≢◌, ◌↔◌}
 use Prim.Native.Nat.{ℕ, ◌*◌, ◌≤◌, ◌<◌}
 use native.Mathlib.Omega.{arith}
 use native.Mathlib.Nat.{mul-le-mul}
-use Rattle.words.specs.declared.Check.TheVariants.{Good}
-use Rattle.words.specs.Refusals.{refused}
+use Rattle.std.specs.Prelude.{Err}
+use Rattle.words.specs.declared.Refusal.{Refusal}
+use Rattle.words.specs.Refusals.{refused, Check, Good}
 use Rattle.words.proofs.Refusals.{and_good, only_must, and_first, and_second}
+use Rattle.words.specs.declared.Reason.{Reason}
+use Rattle.words.specs.declared.Reason.TheVariants.{TooShort}
 use Rattle.meaning.specs.Net.{Sane}
 use Rattle.numbers.specs.declared.Numbers.{Numbers}
 use Rattle.numbers.specs.Numbers.{room_check}
 use Rattle.lists.specs.Lists.{net, lists_check}
 use Rattle.numbers.proofs.Right.{room_good}
+use Rattle.lists.specs.declared.Lists.{Lists}
 use Rattle.lists.proofs.Right.{accepted, sane}
 use Rattle.numbers.proofs.Given.{room_given}
 use Rattle.lists.proofs.Given.{lists_other}
-use Rattle.rows.specs.Calls.{rows_check}
+use Rattle.rows.specs.Calls.{rows_check, RowsMade, RowsCall}
+use lib.ListN.{length}
+
+pub lists_sane : (l : Lists) → Sane (net l.numbers l.rules.now l.edges.now)
+lists_sane l = sane l.numbers l.rules.now l.edges.now (accepted l.numbers l.rules.now l.edges.now l.passed)
 
 -- the number of rows
 pub rows_few : (numbers : Numbers) (rules edges : List ℕ) → lists_check numbers rules edges ≡ Good → numbers.nonterminals * numbers.nodes ≤ 2048
@@ -38,15 +46,25 @@ module _ (numbers : Numbers) (rules edges : List ℕ) (have : ℕ) (e : rows_che
 
 module _ (numbers : Numbers) (rules edges : List ℕ) (have p : ℕ) where
   -- the lists' refusals come first, exactly as the lists give them
-  pub given_lists : (k : ℕ) → k ≢ 10 → (rows_check numbers rules edges have ≡ refused k p) ↔ (lists_check numbers rules edges ≡ refused k p)
+  pub given_lists : (k : Reason) → k ≢ TooShort → (rows_check numbers rules edges have ≡ refused k p) ↔ (lists_check numbers rules edges ≡ refused k p)
   unfolding rows_check room_check
-  given_lists k n = and_first _ _ k p (only_must _ _ 10 5 (λ e. n (sym e)))
+  given_lists k n = and_first _ _ k p (only_must _ _ TooShort 5 (λ e. n (sym e)))
 
-  -- 10: "a lent buffer too short", "rows 5"
-  pub given_10 : (rows_check numbers rules edges have ≡ refused 10 p)
+  -- the rows are too few
+  pub given_10 : (rows_check numbers rules edges have ≡ refused TooShort p)
       ↔ ((lists_check numbers rules edges ≡ Good) × ((have < numbers.nonterminals * numbers.nodes) × (p ≡ 5)))
   unfolding rows_check
   given_10 =
       Iff.trans
-      (and_second (lists_check numbers rules edges) _ 10 p (lists_other numbers rules edges 10 (omega arith)))
+      (and_second (lists_check numbers rules edges) _ TooShort p (lists_other numbers rules edges TooShort (omega arith)))
       (Iff.and Iff.rfl (room_given 5 (numbers.nonterminals * numbers.nodes) have p))
+
+module _ (numbers : Numbers) (rules edges rs : List ℕ) where
+  -- a refused call
+  pub rows_refused : {c : Check} (r : Refusal) → c ≡ Err r → rows_check numbers rules edges (length rs) ≡ Err r → RowsCall numbers rules edges rs c rs
+  rows_refused r e s = record { answer = e ∙ sym s; leaves = rw e refl }
+
+  -- an accepted one
+  pub rows_done : {rs' : List ℕ} → RowsMade (net numbers rules edges) rs rs' → rows_check numbers rules edges (length rs) ≡ Good
+      → RowsCall numbers rules edges rs Good rs'
+  rows_done m s = record { answer = sym s; leaves = m }

@@ -14,7 +14,7 @@ use Rattle.meaning.proofs.Trees.{reach_tree, tree_reach, tree_inside}
 use Rattle.meaning.proofs.Bits.{bit_zero, bit_power_other}
 use Rattle.numbers.specs.declared.Numbers.{Numbers}
 use Rattle.lists.specs.Lists.{net}
-use Rattle.rows.specs.Rounds.{Grown, LabelStep, cleared, AllLeaves, EachBit, InRange, Ready, Entered, Closed}
+use Rattle.rows.specs.Rounds.{RowsGrown, LabelStep, zeroed, AllLeafBits, EachBit, InRange, RowsReady, Entered, RowsClosed}
 use Rattle.rows.specs.Calls.{RowsMade}
 use Rattle.rows.proofs.Lowest.{bits_below}
 use Rattle.rows.proofs.Grows.{grown_length, grown_keeps, grown_rest, row_same, grown_each, pairs_each}
@@ -34,7 +34,7 @@ module _ (numbers : Numbers) {rules edges : List ℕ} (ok : Sane (net numbers ru
   range r A B C p = let q = ok.pairs r A B C p in (q.head, q.left, q.right)
 
   -- a leaf's tree for each bit that the label rules bring
-  entered_trees : {rs' : List ℕ} → Grown (LabelStep n rules edges) (cleared count rs) rs' → EachBit numbers (Tree g) rs'
+  entered_trees : {rs' : List ℕ} → RowsGrown (LabelStep n rules edges) (zeroed count rs) rs' → EachBit numbers (Tree g) rs'
   entered_trees x = grown_each numbers (Tree g) brings x (λ A i j hA hi b. absurd (omega (arith, bit_zero j, rw (get_or-fill count 0 rs (A * n + i) (digits_lt hA hi)) at b)))
     where
       brings : (rs : List ℕ) (a w : ℕ) → EachBit numbers (Tree g) rs → LabelStep n rules edges rs a w
@@ -48,14 +48,14 @@ module _ (numbers : Numbers) {rules edges : List ℕ} (ok : Sane (net numbers ru
           go (yes z) = rw (q.0, q.1, z) (leaf s.r s.e s.rule s.edge)
           go (no z) = absurd (omega (arith, rw s.is at b, bit_power_other s.j j z))
 
-  pub entered_ready : {rs' : List ℕ} → count ≤ length rs → Grown (LabelStep n rules edges) (cleared count rs) rs' → Ready numbers rules rs'
+  pub entered_ready : {rs' : List ℕ} → count ≤ length rs → RowsGrown (LabelStep n rules edges) (zeroed count rs) rs' → RowsReady numbers rules rs'
   entered_ready long x = record {
     long = omega (arith, long, grown_length x, length-fill count 0 rs long);
     range = range;
     clear = λ A i j hA hi b. (tree_inside ok (entered_trees x A i j hA hi b)).to;
   }
 
-  module _ {rs' rs'' : List ℕ} (x : Entered n rules edges (AllLeaves n rules edges) (cleared count rs) rs') (y : Closed n rules rs' rs'') where
+  module _ {rs' rs'' : List ℕ} (x : Entered n rules edges (AllLeafBits n rules edges) (zeroed count rs) rs') (y : RowsClosed n rules rs' rs'') where
     -- every bit has a tree
     trees : EachBit numbers (Tree g) rs''
     trees = pairs_each numbers range (Tree g) (record { inside = λ A i j τ. (tree_inside ok τ).to; joins = λ r A B C i k j p σ τ. pair r k p σ τ }) y.grown (entered_trees x.grown)

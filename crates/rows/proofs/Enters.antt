@@ -13,12 +13,15 @@ use lib.Bits.{bit_or}
 use lib.Pow.{pow-lt}
 use lib.Arith.{digits_lt}
 use Rattle.meaning.specs.Net.{Edge, LabelRule, Sane, word}
+use Rattle.meaning.specs.Records.{rule_at}
+use Rattle.meaning.specs.declared.Rule.TheVariants.{Label, Pair}
+use Rattle.meaning.proofs.Rules.{label_words, pair_words}
 use Rattle.meaning.proofs.Bits.{bit_power}
 use Rattle.numbers.specs.declared.Numbers.{Numbers}
 use Rattle.lists.specs.Lists.{net}
-use Rattle.rows.specs.Rounds.{united, none, more, entered, EdgeFits, Leaf, Leaves, AllLeaves, Entered}
+use Rattle.rows.specs.Rounds.{united, none, more, entered, EdgeFits, LeafBit, LeafBits, AllLeafBits, Entered}
 use Rattle.rows.proofs.United.{united_keeps, united_adds}
-use Rattle.rows.proofs.Grows.{grown_then, grown_keeps}
+use Rattle.rows.proofs.Grows.{grown_length, grown_then, grown_keeps}
 
 module _ (edges : List ℕ) (e base label : ℕ) (rs : List ℕ) where
   pub entered_not : word edges e 1 ≢ label → entered edges e base label rs ≡ rs
@@ -44,17 +47,21 @@ edge_there numbers {edges} {r} {A} {x} {e} rs ok long l h =
     let d = ok.ends e (word edges e 0) (word edges e 1) (word edges e 2) (record { inside = h; from = refl; label = refl; to = refl }) in
     record { edge = h; row = omega (arith, digits_lt (ok.leaves r A x l).head d.from); to = omega (arith, d.to, ok.nodes) }
 
+-- a label rule, as code reads it
+pub label_rule : {rules : List ℕ} {r A x : ℕ} → Label A x ≡ rule_at rules r → r < length rules / 3 → LabelRule rules r A x
+label_rule e h = let w = label_words e in record { inside = h; head = w.head; label = w.label; mark = eqb-true _ _ w.mark }
+
 module _ (n : ℕ) (rules edges : List ℕ) (r : ℕ) where
   -- the edges below e
   abbrev pub EdgesBelow : ℕ → List ℕ → Type 0
-  EdgesBelow e rs = (f : ℕ) → f < e → Leaf n rules edges r f rs
+  EdgesBelow e rs = (f : ℕ) → f < e → LeafBit n rules edges r f rs
 
   -- the rules below r
   abbrev pub RulesBelow : List ℕ → Type 0
-  RulesBelow rs = (s : ℕ) → s < r → Leaves n rules edges s rs
+  RulesBelow rs = (s : ℕ) → s < r → LeafBits n rules edges s rs
 
-  pub enter_none : {rs : List ℕ} → word rules r 2 ≢ 65535 → Entered n rules edges (Leaves n rules edges r) rs rs
-  enter_none m = record { grown = none; leaves = λ e A x i j l d. absurd (m l.mark) }
+  pub enter_none : {rs : List ℕ} {A B C : ℕ} → Pair A B C ≡ rule_at rules r → Entered n rules edges (LeafBits n rules edges r) rs rs
+  enter_none m = let w = pair_words m in record { grown = none; leaves = λ e A x i j l d. absurd (eqb-false _ _ w.pair l.mark) }
 
   -- one edge more
   pub edge_more : {A x e : ℕ} {rs rs' : List ℕ} → LabelRule rules r A x → EdgeFits edges e (A * n) rs'
@@ -82,12 +89,15 @@ module _ (n : ℕ) (rules edges : List ℕ) (r : ℕ) where
           })
 
   -- all of them
-  pub edges_all : {rs rs' : List ℕ} → Entered n rules edges (EdgesBelow (length edges / 3)) rs rs' → Entered n rules edges (Leaves n rules edges r) rs rs'
-  edges_all y = record { grown = y.grown; leaves = λ e A x i j l d. y.leaves e d.inside A x i j l d }
+  pub edges_all : {rs rs' : List ℕ} {c : ℕ} → length edges / 3 ≤ c → Entered n rules edges (EdgesBelow c) rs rs' → Entered n rules edges (LeafBits n rules edges r) rs rs'
+  edges_all h y = record { grown = y.grown; leaves = λ e A x i j l d. y.leaves e (omega (arith, d.inside)) A x i j l d }
 
 module _ (n : ℕ) (rules edges : List ℕ) where
+  pub rules_none : {rs : List ℕ} → Entered n rules edges (RulesBelow n rules edges 0) rs rs
+  rules_none = record { grown = none; leaves = λ s h. absurd (omega arith) }
+
   -- one rule more
-  pub rule_more : {rs rs' rs'' : List ℕ} (r : ℕ) → Entered n rules edges (RulesBelow n rules edges r) rs rs' → Entered n rules edges (Leaves n rules edges r) rs' rs''
+  pub rule_more : {rs rs' rs'' : List ℕ} (r : ℕ) → Entered n rules edges (RulesBelow n rules edges r) rs rs' → Entered n rules edges (LeafBits n rules edges r) rs' rs''
       → Entered n rules edges (RulesBelow n rules edges (r + 1)) rs rs''
   rule_more r y z = record {
     grown = grown_then y.grown z.grown;
@@ -95,5 +105,8 @@ module _ (n : ℕ) (rules edges : List ℕ) where
   }
 
   -- all of them
-  pub rules_all : {rs rs' : List ℕ} → Entered n rules edges (RulesBelow n rules edges (length rules / 3)) rs rs' → Entered n rules edges (AllLeaves n rules edges) rs rs'
-  rules_all y = record { grown = y.grown; leaves = λ r e A x i j l d. y.leaves r l.inside e A x i j l d }
+  pub rules_all : {rs rs' : List ℕ} {c : ℕ} → length rules / 3 ≤ c → Entered n rules edges (RulesBelow n rules edges c) rs rs' → Entered n rules edges (AllLeafBits n rules edges) rs rs'
+  rules_all h y = record { grown = y.grown; leaves = λ r e A x i j l d. y.leaves r (omega (arith, l.inside)) e A x i j l d }
+
+-- what the loop over rules needs
+pub ruleset entering_rules = (grown_length, rules_none, rule_more, rules_all)

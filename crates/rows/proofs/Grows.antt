@@ -9,24 +9,24 @@ use lib.Arith.{digits_div, digits_mod}
 use Rattle.meaning.specs.Net.{PairRule}
 use Rattle.meaning.specs.Rows.{bit, row_at}
 use Rattle.numbers.specs.declared.Numbers.{Numbers}
-use Rattle.rows.specs.Rounds.{united, Grown, none, more, PairStep, EachBit, InRange, Ready}
+use Rattle.rows.specs.Rounds.{united, RowsGrown, none, more, PairStep, EachBit, InRange, RowsReady}
 use Rattle.rows.proofs.United.{united_length, united_rest, united_only, united_keeps}
 
 module _ {Step : List ℕ → ℕ → ℕ → Type 0} {rs : List ℕ} where
-  pub grown_then : {rs' rs'' : List ℕ} → Grown Step rs rs' → Grown Step rs' rs'' → Grown Step rs rs''
+  pub grown_then : {rs' rs'' : List ℕ} → RowsGrown Step rs rs' → RowsGrown Step rs' rs'' → RowsGrown Step rs rs''
   grown_then x none = x
   grown_then x (more a w y s) = more a w (grown_then x y) s
 
-  pub grown_length : {rs' : List ℕ} → Grown Step rs rs' → length rs' ≡ length rs
+  pub grown_length : {rs' : List ℕ} → RowsGrown Step rs rs' → length rs' ≡ length rs
   grown_length none = refl
   grown_length (more {rs'} a w x s) = united_length rs' a w ∙ grown_length x
 
-  pub grown_keeps : {rs' : List ℕ} → Grown Step rs rs' → (c j : ℕ) → bit (get_or rs c 0) j ≡ 1 → bit (get_or rs' c 0) j ≡ 1
+  pub grown_keeps : {rs' : List ℕ} → RowsGrown Step rs rs' → (c j : ℕ) → bit (get_or rs c 0) j ≡ 1 → bit (get_or rs' c 0) j ≡ 1
   grown_keeps none c j b = b
   grown_keeps (more {rs'} a w x s) c j b = united_keeps rs' a w c j (grown_keeps x c j b)
 
   -- what lies past every row that a step may take into is kept
-  pub grown_rest : {rs' : List ℕ} (c : ℕ) → ((rs : List ℕ) (a w : ℕ) → Step rs a w → a < c) → Grown Step rs rs' → drop c rs' ≡ drop c rs
+  pub grown_rest : {rs' : List ℕ} (c : ℕ) → ((rs : List ℕ) (a w : ℕ) → Step rs a w → a < c) → RowsGrown Step rs rs' → drop c rs' ≡ drop c rs
   grown_rest c low none = refl
   grown_rest c low (more {rs'} a w x s) = united_rest rs' a w c (low rs' a w s) ∙ grown_rest c low x
 
@@ -42,7 +42,7 @@ module _ (numbers : Numbers) (P : ℕ → ℕ → ℕ → Type 0) where
 
   pub grown_each : {Step : List ℕ → ℕ → ℕ → Type 0} {rs rs' : List ℕ}
       → ((rs : List ℕ) (a w : ℕ) → EachBit numbers P rs → Step rs a w → Brings a w)
-      → Grown Step rs rs' → EachBit numbers P rs → EachBit numbers P rs'
+      → RowsGrown Step rs rs' → EachBit numbers P rs → EachBit numbers P rs'
   grown_each brings none h = h
   grown_each brings (more {rs'} a w x s) h = go (grown_each brings x h)
     where
@@ -60,7 +60,7 @@ pub record Keeps (numbers : Numbers) (rules : List ℕ) (P : ℕ → ℕ → ℕ
 
 module _ (numbers : Numbers) {rules : List ℕ} (range : InRange numbers rules) where
   -- then the rounds keep it
-  pub pairs_each : (P : ℕ → ℕ → ℕ → Type 0) {rs rs' : List ℕ} → Keeps numbers rules P → Grown (PairStep numbers.nodes rules) rs rs'
+  pub pairs_each : (P : ℕ → ℕ → ℕ → Type 0) {rs rs' : List ℕ} → Keeps numbers rules P → RowsGrown (PairStep numbers.nodes rules) rs rs'
       → EachBit numbers P rs → EachBit numbers P rs'
   pairs_each P keeps = grown_each numbers P (λ rs a w h s A i j hA hi e b.
       let q = row_same numbers.nodes A s.A i s.i hi s.from (e ∙ s.row) in
@@ -70,8 +70,8 @@ module _ (numbers : Numbers) {rules : List ℕ} (range : InRange numbers rules) 
       let u = h s.C c.k j m.2 (keeps.inside _ _ _ l) c.row in
       rw (q.0, q.1) (keeps.joins s.r s.A s.B s.C s.i c.k j s.rule l u))
 
-pub ready_grown : {numbers : Numbers} {rules rs rs' : List ℕ} → Ready numbers rules rs → Grown (PairStep numbers.nodes rules) rs rs'
-    → Ready numbers rules rs'
+pub ready_grown : {numbers : Numbers} {rules rs rs' : List ℕ} → RowsReady numbers rules rs → RowsGrown (PairStep numbers.nodes rules) rs rs'
+    → RowsReady numbers rules rs'
 ready_grown {numbers} r x = record {
   long = omega (arith, r.long, grown_length x);
   range = r.range;

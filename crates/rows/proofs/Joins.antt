@@ -9,11 +9,11 @@ use lib.Dec.{eqb}
 use lib.Bits.{bit_or, or_zero_r}
 use borrow.Author.Tests.{eqb-true, eqb-false}
 use Rattle.meaning.proofs.Bits.{bit_zero}
-use Rattle.rows.specs.Rounds.{Chosen, Union, united, Full, Went, Joined}
+use Rattle.rows.specs.Rounds.{Chosen, Union, united, Full, Went, ProductTaken}
 use Rattle.rows.proofs.United.{united_same, united_adds, united_total}
 
 module _ (rs : List ℕ) (a b c : ℕ) where
-  pub joined_none : get_or rs b 0 ≡ 0 → Joined rs a b c false rs
+  pub joined_none : get_or rs b 0 ≡ 0 → ProductTaken rs a b c false rs
   joined_none e = record {
     w = 0;
     product = record { only = λ j h. absurd (omega (arith, bit_zero j)); every = λ j h. absurd (nothing j h) };
@@ -25,7 +25,7 @@ module _ (rs : List ℕ) (a b c : ℕ) where
       nothing j h = omega (arith, rw e at h.choice, bit_zero h.k)
 
   pub joined : (w : ℕ) → a < length rs → Union rs c (get_or rs b 0) w
-      → Joined rs a b c (not (eqb (bit_or (get_or rs a 0) w) (get_or rs a 0))) (united rs a w)
+      → ProductTaken rs a b c (not (eqb (bit_or (get_or rs a 0) w) (get_or rs a 0))) (united rs a w)
   joined w h u = record { w = w; product = u; is = refl; went = go (eqb (bit_or (get_or rs a 0) w) (get_or rs a 0)) refl }
     where
       go : (same : Bool) → eqb (bit_or (get_or rs a 0) w) (get_or rs a 0) ≡ same → Went (not same) (Full a b c) rs (united rs a w)

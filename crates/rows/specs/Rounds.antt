@@ -1,6 +1,6 @@
--- The Boolean closure of source document 004 on rows of bits: how rows grow, and when a round is the last.
--- Its Algorithm 1 enters A at (i, j) for each edge (i, x, j) and rule A → x, and then, "while matrix T is changing", works
--- "T ← T ∪ (T × T)", where A is at (i, j) of the product if B is at (i, k) and C at (k, j) for a rule A → B C. Assumes nothing.
+-- The Boolean closure on rows of bits: how rows grow, and when a round is the last. A is entered at (i, j) for each edge
+-- (i, x, j) and rule A → x; then products are taken in until nothing changes, where A is at (i, j) of the product if B is at
+-- (i, k) and C at (k, j) for a rule A → B C. Assumes nothing.
 use Rattle.std.specs.Prelude.{◌≡◌, List, Bool, true, false, cond, ℕ, ◌+◌, ◌*◌, ◌/◌, ◌^◌, ◌≤◌, ◌<◌, length, get_or, set, replicate, eqb}
 use Rattle.std.specs.Int.Bits.{bit_or}
 use Rattle.words.specs.Tab.{over}
@@ -33,9 +33,9 @@ unfoldable pub united : List ℕ → ℕ → ℕ → List ℕ
 united rs a w = set rs a (bit_or (get_or rs a 0) w)
 
 -- rs' comes from rs by taking words into rows, each as Step allows
-pub data Grown (Step : List ℕ → ℕ → ℕ → Type 0) (rs : List ℕ) : List ℕ → Type 0 where
-  none : Grown Step rs rs
-  more : {rs' : List ℕ} (a w : ℕ) → Grown Step rs rs' → Step rs' a w → Grown Step rs (united rs' a w)
+pub data RowsGrown (Step : List ℕ → ℕ → ℕ → Type 0) (rs : List ℕ) : List ℕ → Type 0 where
+  none : RowsGrown Step rs rs
+  more : {rs' : List ℕ} (a w : ℕ) → RowsGrown Step rs rs' → Step rs' a w → RowsGrown Step rs (united rs' a w)
 
 -- for a label rule A → x and an edge from i to j with label x: bit j into row (A, i)
 pub record LabelStep (n : ℕ) (rules edges rs : List ℕ) (a w : ℕ) : Type 0 where
@@ -64,9 +64,9 @@ pub record PairStep (n : ℕ) (rules rs : List ℕ) (a w : ℕ) : Type 0 where
 
 -- ---- the start
 
--- the first c rows cleared, the words past them kept
-abbrev pub cleared : ℕ → List ℕ → List ℕ
-cleared c rs = over (replicate c 0) rs
+-- the first c rows zeroed, the words past them kept
+abbrev pub zeroed : ℕ → List ℕ → List ℕ
+zeroed c rs = over (replicate c 0) rs
 
 -- the rows after edge e was entered for a rule with this label, whose head's rows begin at `base`
 unfoldable pub entered : List ℕ → ℕ → ℕ → ℕ → List ℕ → List ℕ
@@ -79,18 +79,18 @@ pub record EdgeFits (edges : List ℕ) (e base : ℕ) (rs : List ℕ) : Type 0 w
   pub to : word edges e 2 < 64
 
 -- if rule r is a label rule that edge e fits, its bit is set
-abbrev pub Leaf : ℕ → List ℕ → List ℕ → ℕ → ℕ → List ℕ → Type 0
-Leaf n rules edges r e rs = (A x i j : ℕ) → LabelRule rules r A x → Edge edges e i x j → bit (row_at n rs A i) j ≡ 1
+abbrev pub LeafBit : ℕ → List ℕ → List ℕ → ℕ → ℕ → List ℕ → Type 0
+LeafBit n rules edges r e rs = (A x i j : ℕ) → LabelRule rules r A x → Edge edges e i x j → bit (row_at n rs A i) j ≡ 1
 
-abbrev pub Leaves : ℕ → List ℕ → List ℕ → ℕ → List ℕ → Type 0
-Leaves n rules edges r rs = (e : ℕ) → Leaf n rules edges r e rs
+abbrev pub LeafBits : ℕ → List ℕ → List ℕ → ℕ → List ℕ → Type 0
+LeafBits n rules edges r rs = (e : ℕ) → LeafBit n rules edges r e rs
 
-abbrev pub AllLeaves : ℕ → List ℕ → List ℕ → List ℕ → Type 0
-AllLeaves n rules edges rs = (r : ℕ) → Leaves n rules edges r rs
+abbrev pub AllLeafBits : ℕ → List ℕ → List ℕ → List ℕ → Type 0
+AllLeafBits n rules edges rs = (r : ℕ) → LeafBits n rules edges r rs
 
 -- label rules have brought rs to rs', and P about
 pub record Entered (n : ℕ) (rules edges : List ℕ) (P : List ℕ → Type 0) (rs rs' : List ℕ) : Type 0 where
-  pub grown : Grown (LabelStep n rules edges) rs rs'
+  pub grown : RowsGrown (LabelStep n rules edges) rs rs'
   pub leaves : P rs'
 
 -- ---- the rounds
@@ -114,7 +114,7 @@ pub record JoinFits (rs : List ℕ) (a b c : ℕ) : Type 0 where
   pub right : (k : ℕ) → bit (get_or rs b 0) k ≡ 1 → c + k < length rs
 
 -- row a has taken in the product of row b with the rows from c on
-pub record Joined (rs : List ℕ) (a b c : ℕ) (changed : Bool) (rs' : List ℕ) : Type 0 where
+pub record ProductTaken (rs : List ℕ) (a b c : ℕ) (changed : Bool) (rs' : List ℕ) : Type 0 where
   pub w : ℕ
   pub product : Union rs c (get_or rs b 0) w
   pub is : rs' ≡ united rs a w
@@ -122,12 +122,12 @@ pub record Joined (rs : List ℕ) (a b c : ℕ) (changed : Bool) (rs' : List ℕ
 
 -- pair rules have brought rs to rs'
 pub record Worked (n : ℕ) (rules : List ℕ) (P : List ℕ → Type 0) (rs : List ℕ) (changed : Bool) (rs' : List ℕ) : Type 0 where
-  pub grown : Grown (PairStep n rules) rs rs'
+  pub grown : RowsGrown (PairStep n rules) rs rs'
   pub went : Went changed P rs rs'
 
 -- the rows after the last round
-pub record Closed (n : ℕ) (rules rs rs' : List ℕ) : Type 0 where
-  pub grown : Grown (PairStep n rules) rs rs'
+pub record RowsClosed (n : ℕ) (rules rs rs' : List ℕ) : Type 0 where
+  pub grown : RowsGrown (PairStep n rules) rs rs'
   pub still : AllProducts n rules rs'
 
 -- P of every set bit j of every row (A, i)
@@ -140,7 +140,7 @@ InRange numbers rules = (r A B C : ℕ) → PairRule rules r A B C
     → (A < numbers.nonterminals) × (B < numbers.nonterminals) × (C < numbers.nonterminals)
 
 -- what a round asks: room for all rows, rules in range, and "bits from the node count up are clear"
-pub record Ready (numbers : Numbers) (rules rs : List ℕ) : Type 0 where
+pub record RowsReady (numbers : Numbers) (rules rs : List ℕ) : Type 0 where
   pub long : numbers.nonterminals * numbers.nodes ≤ length rs
   pub range : InRange numbers rules
   pub clear : EachBit numbers (λ A i j. j < numbers.nodes) rs

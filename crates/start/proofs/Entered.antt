@@ -1,14 +1,13 @@
 -- What emptying words and entering a key do. Assumes nothing.
 use mathlib.Core.Path.{◌≡◌}
 use mathlib.Core.List.{List}
-use Prim.Native.Nat.{ℕ, ◌+◌, ◌≤◌, ◌<◌, min}
-use native.Mathlib.Numerals.{add-one}
+use Prim.Native.Nat.{ℕ, ◌≤◌, ◌<◌, min}
 use native.Mathlib.Omega.{arith}
 use lib.ListN.{length, get_or, set, replicate}
 use lib.Seq.{set-get_or}
 use Rattle.words.specs.Tab.{over}
 use Rattle.key.specs.Keys.{EMPTY}
-use Rattle.start.specs.Entering.{entered_in, cleared, leaf_in, edges_in, rule_in, rules_in}
+use Rattle.start.specs.Entering.{entered_in, cleared}
 
 -- ---- emptied words
 
@@ -27,15 +26,3 @@ module _ (t : List ℕ) (c κ : ℕ) where
   pub enter_wins : κ < get_or t c 0 → entered_in t c κ ≡ set t c κ
   unfolding entered_in
   enter_wins l = let e : min (get_or t c 0) κ ≡ κ = omega arith in rw e
-
--- ---- one edge, and one rule, more
-
-pub edges_more : (n : ℕ) (edges : List ℕ) (A x r : ℕ) (t : List ℕ) (e : ℕ)
-    → edges_in n edges A x r t (e + 1) ≡ leaf_in n edges A x r (edges_in n edges A x r t e) e
-unfolding edges_in
-edges_more n edges A x r t e = rw add-one
-
-pub rules_more : (n : ℕ) (rules edges t : List ℕ) (r : ℕ)
-    → rules_in n rules edges t (r + 1) ≡ rule_in n rules edges (rules_in n rules edges t r) r
-unfolding rules_in
-rules_more n rules edges t r = rw add-one

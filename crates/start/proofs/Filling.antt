@@ -11,6 +11,9 @@ use lib.Seq.{get_or-set_same, get_or-set_other, drop-set-lt}
 use lib.Dec.{eqb}
 use borrow.Author.Tests.{eqb-true, eqb-false}
 use borrow.Table.Steps.{cases}
+use Rattle.std.specs.Prelude.{Err}
+use Rattle.words.specs.Refusals.{Check, Good}
+use Rattle.words.specs.declared.Refusal.{Refusal}
 use Rattle.words.proofs.Tab.{length-fill, get_or-fill, drop-fill}
 use Rattle.key.specs.Keys.{EMPTY, key}
 use Rattle.meaning.specs.Net.{Net, Edge, LabelRule, word}
@@ -19,9 +22,10 @@ use Rattle.meaning.proofs.Cells.{cell_in, cell_same}
 use Rattle.numbers.specs.declared.Numbers.{Numbers}
 use Rattle.lists.specs.Lists.{net}
 use Rattle.lists.proofs.Right.{RightLists, sane}
-use Rattle.start.specs.Entering.{entered_in, cleared, leaf_in, edges_in, rule_in, rules_in}
-use Rattle.start.specs.Calls.{Started}
+use Rattle.start.specs.Entering.{entered_in, cleared, leaf_in, edges_in, rule_in, rules_in, begun}
+use Rattle.start.specs.Calls.{start_check, Started, StartCall}
 use Rattle.start.proofs.Entered.{cleared_all}
+use Rattle.start.proofs.Order.{start_good}
 
 -- the leaf of rule r' and edge e' has been entered: all edges of the rules before r have, and of rule r those before e
 data Passed (r e r' e' : ℕ) : Type 0 where
@@ -239,3 +243,15 @@ module _ (numbers : Numbers) (rules edges : List ℕ) (ok : RightLists numbers r
           };
           kept = th.kept;
         }
+
+module _ (numbers : Numbers) (rules edges t : List ℕ) where
+  -- a refused start
+  pub start_refused : {c : Check} (r : Refusal) → c ≡ Err r → start_check numbers rules edges (length t) ≡ Err r → StartCall numbers rules edges t c t
+  start_refused r e s = record { answer = e ∙ sym s; leaves = rw e refl }
+
+  -- an accepted one
+  pub start_done : {u : List ℕ} → u ≡ begun numbers.nodes numbers.nonterminals rules edges t (length rules / 3)
+      → start_check numbers rules edges (length t) ≡ Good → StartCall numbers rules edges t Good u
+  start_done e s =
+      let r = (start_good numbers rules edges (length t)).0 s in
+      record { answer = sym s; leaves = rw e (filled numbers rules edges r.lists t r.room) }

@@ -3,8 +3,8 @@ use mathlib.Core.Path.{◌≡◌}
 use mathlib.Core.List.{List}
 use mathlib.Core.Logic.{◌↔◌}
 use Prim.Native.Nat.{ℕ, ◌≤◌}
-use Rattle.words.specs.declared.Check.TheVariants.{Good}
 use Rattle.words.proofs.Refusals.{and_good}
+use Rattle.words.specs.Refusals.{Good}
 use Rattle.numbers.specs.declared.Numbers.{Numbers}
 use Rattle.numbers.specs.Numbers.{cells_of}
 use Rattle.numbers.proofs.Right.{room_good}
@@ -13,11 +13,11 @@ use Rattle.start.specs.Calls.{start_check}
 
 module _ (numbers : Numbers) (rules edges : List ℕ) where
   -- a start, or a step, on accepted lists and a table that is long enough
-  pub record Ready (have : ℕ) : Type 0 where
+  pub record StartReady (have : ℕ) : Type 0 where
     pub lists : RightLists numbers rules edges
     pub room : cells_of numbers ≤ have
 
-  pub start_good : (have : ℕ) → (start_check numbers rules edges have ≡ Good) ↔ Ready have
+  pub start_good : (have : ℕ) → (start_check numbers rules edges have ≡ Good) ↔ StartReady have
   unfolding start_check
   start_good have = (
     λ e.

@@ -3,8 +3,6 @@ use mathlib.Core.Path.{◌≡◌, sym, ◌∙◌}
 use mathlib.Core.List.{List}
 use Prim.Native.Nat.{ℕ}
 use lib.ListN.{length}
-use Rattle.words.specs.declared.Check.{Check}
-use Rattle.words.specs.declared.Check.TheVariants.{Good, Bad}
 use Rattle.meaning.specs.Net.{Net, Sane}
 use Rattle.meaning.proofs.Computed.{start_one}
 use Rattle.meaning.proofs.Fronts.{tables_same}
@@ -13,6 +11,8 @@ use Rattle.lists.specs.Lists.{net}
 use Rattle.lists.proofs.Right.{sane}
 use Rattle.start.specs.Calls.{start_check, Started, StartLeaves, StartCall}
 use Rattle.start.proofs.Order.{start_good}
+use Rattle.words.specs.Refusals.{Check}
+use Rattle.std.specs.Prelude.{Ok, Err}
 
 -- two tables started from one are the same list
 pub started_one : {g : Net} → Sane g → (t u v : List ℕ) → Started g t u → Started g t v → u ≡ v
@@ -23,9 +23,9 @@ started_one {g} ok t u v a b =
 module _ (numbers : Numbers) (rules edges t : List ℕ) where
   leaves_one : (c : Check) (u v : List ℕ) → c ≡ start_check numbers rules edges (length t)
       → StartLeaves c (net numbers rules edges) t u → StartLeaves c (net numbers rules edges) t v → u ≡ v
-  leaves_one Good u v e a b =
+  leaves_one (Ok _) u v e a b =
       started_one (sane numbers rules edges ((start_good numbers rules edges (length t)).0 (sym e)).lists) t u v a b
-  leaves_one (Bad r) u v e a b = a ∙ sym b
+  leaves_one (Err r) u v e a b = a ∙ sym b
 
   pub start_settled : (c d : Check) (u v : List ℕ) → StartCall numbers rules edges t c u → StartCall numbers rules edges t d v
       → (c ≡ d) × (u ≡ v)

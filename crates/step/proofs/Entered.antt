@@ -1,21 +1,22 @@
 -- What a candidate's word is, and what taking a key does. Assumes nothing.
 use mathlib.Core.Path.{◌≡◌}
 use mathlib.Core.List.{List}
-use mathlib.Core.Bool.{◌&&◌, ◌||◌}
+use mathlib.Core.Bool.{true, false, ◌&&◌, ◌||◌}
 use Prim.Native.Nat.{ℕ, ◌≤◌, ◌<◌}
 use native.Mathlib.Omega.{arith}
 use native.Mathlib.Decide.{dec_lt}
 use lib.ListN.{length, get_or, set, get_or-eq_default}
 use lib.Dec.{eqb, leb, ltb}
 use borrow.Author.Tests.{lt-ltb, le-ltb}
+use Rattle.std.specs.Prelude.{Ok, Err}
 use Rattle.words.specs.Refusals.{must}
+use Rattle.words.specs.declared.Reason.TheVariants.{TooHigh}
 use Rattle.key.specs.declared.Parts.{Parts}
 use Rattle.key.specs.Keys.{EMPTY, HIGHEST, key, height_of, parts_of}
 use Rattle.meaning.specs.Trees.{joined}
 use Rattle.meaning.specs.Steps.{usable}
 use Rattle.meaning.proofs.Cells.{candidate_filled, candidate_left, candidate_right}
 use Rattle.start.proofs.Entered.{enter_keeps, enter_wins}
-use Rattle.step.specs.declared.StepAnswer.TheVariants.{Changed, Unchanged, Refused}
 use Rattle.step.specs.Entering.{offered, taken}
 
 -- ---- the candidate as a word
@@ -51,15 +52,15 @@ module _ (t : List ℕ) (c κ : ℕ) where
       go (yes h) = h
       go (no h) = absurd (omega (arith, get_or-eq_default t 0 {n = c} (omega arith)))
 
-  pub taken_no : get_or t c 0 ≤ κ → taken t c κ ≡ (Unchanged, t)
+  pub taken_no : get_or t c 0 ≤ κ → taken t c κ ≡ (Ok false, t)
   unfolding taken must
   taken_no l = rw (le-ltb κ _ l, enter_keeps t c κ l)
 
-  pub taken_high : κ < get_or t c 0 → HIGHEST < height_of κ → taken t c κ ≡ (Refused (record { number = 12; place = c }), t)
+  pub taken_high : κ < get_or t c 0 → HIGHEST < height_of κ → taken t c κ ≡ (Err (record { reason = TooHigh; place = c }), t)
   unfolding taken must
   taken_high l h = rw (lt-ltb κ _ l, lt-ltb HIGHEST _ h)
 
-  pub taken_yes : κ < get_or t c 0 → height_of κ ≤ HIGHEST → taken t c κ ≡ (Changed, set t c κ)
+  pub taken_yes : κ < get_or t c 0 → height_of κ ≤ HIGHEST → taken t c κ ≡ (Ok true, set t c κ)
   unfolding taken must
   taken_yes l h = rw (lt-ltb κ _ l, le-ltb HIGHEST _ h, enter_wins t c κ l)
 

@@ -10,9 +10,10 @@ use lib.Dec.{eqb, ltb}
 use borrow.Author.Tests.{ltb-true, ltb-false, eqb-false, not-true, lt-ltb, ne_eqb}
 use borrow.Table.Steps.{cases}
 use Rattle.words.specs.declared.Refusal.{Refusal}
-use Rattle.words.specs.declared.Check.TheVariants.{Good, Bad}
-use Rattle.words.specs.Refusals.{must}
+use Rattle.words.specs.Refusals.{must, Good}
 use Rattle.words.proofs.Refusals.{must_good, and_good, and_next, and_stop}
+use Rattle.std.specs.Prelude.{Result, Err}
+use Rattle.words.specs.declared.Reason.TheVariants.{WrongArgument}
 use Rattle.key.specs.Keys.{EMPTY}
 use Rattle.meaning.specs.Net.{word}
 use Rattle.meaning.specs.Steps.{Step, target_of, left_of, right_of, offer, step, wins, too_high}
@@ -22,16 +23,15 @@ use Rattle.numbers.specs.declared.Numbers.{Numbers}
 use Rattle.numbers.proofs.Right.{room_good}
 use Rattle.lists.proofs.Right.{accepted, accepting}
 use Rattle.start.specs.Entering.{entered_in}
-use Rattle.start.proofs.Order.{Ready}
-use Rattle.step.specs.declared.StepAnswer.TheVariants.{Refused}
-use Rattle.step.specs.Entering.{offered, answered, taken}
-use Rattle.step.specs.Calls.{is_pair, argument_check, usable_check, height_check, call_check, cells_check, cells_step, step_check, step_of}
+use Rattle.start.proofs.Order.{StartReady}
+use Rattle.step.specs.Entering.{offered, step_answer, taken}
+use Rattle.step.specs.Calls.{is_pair_rule, argument_check, usable_check, height_check, ask_check, step_cells_check, cells_step, step_check, step_of}
 use Rattle.step.proofs.Entered.{taken_no}
 
 -- ---- accepted calls
 
-pub pair_true : (rules : List ℕ) (r : ℕ) → (is_pair rules r ≡ true) ↔ ((r < length rules / 3) × (word rules r 2 ≢ 65535))
-unfolding is_pair
+pub pair_true : (rules : List ℕ) (r : ℕ) → (is_pair_rule rules r ≡ true) ↔ ((r < length rules / 3) × (word rules r 2 ≢ 65535))
+unfolding is_pair_rule
 pair_true rules r = (λ e. go (ltb r (length rules / 3)) refl e, λ h. rw (lt-ltb _ _ h.0, ne_eqb _ _ h.1))
   where
     go : (b : Bool) → ltb r (length rules / 3) ≡ b → b && not (eqb (word rules r 2) 65535) ≡ true
@@ -54,29 +54,32 @@ arguments_good n rules r i k j = (
       let a = (and_good _ _).0 e in
       let b = (and_good _ _).0 a.1 in
       let c = (and_good _ _).0 b.1 in
-      let p = (pair_true rules r).0 ((must_good _ 15 0).0 a.0) in
+      let p = (pair_true rules r).0 ((must_good _ WrongArgument 0).0 a.0) in
       record {
         rule = p.0;
         pair = p.1;
-        from = ltb-true _ _ ((must_good _ 15 1).0 b.0);
-        middle = ltb-true _ _ ((must_good _ 15 2).0 c.0);
-        to = ltb-true _ _ ((must_good _ 15 3).0 c.1);
+        from = ltb-true _ _ ((must_good _ WrongArgument 1).0 b.0);
+        middle = ltb-true _ _ ((must_good _ WrongArgument 2).0 c.0);
+        to = ltb-true _ _ ((must_good _ WrongArgument 3).0 c.1);
       },
   λ h.
       (and_good _ _).1 (
-        (must_good _ 15 0).1 ((pair_true rules r).1 (h.rule, h.pair)),
+        (must_good _ WrongArgument 0).1 ((pair_true rules r).1 (h.rule, h.pair)),
         (and_good _ _).1 (
-          (must_good _ 15 1).1 (lt-ltb _ _ h.from),
-          (and_good _ _).1 ((must_good _ 15 2).1 (lt-ltb _ _ h.middle), (must_good _ 15 3).1 (lt-ltb _ _ h.to)),
+          (must_good _ WrongArgument 1).1 (lt-ltb _ _ h.from),
+          (and_good _ _).1 ((must_good _ WrongArgument 2).1 (lt-ltb _ _ h.middle), (must_good _ WrongArgument 3).1 (lt-ltb _ _ h.to)),
         ),
       ),
 )
 
+pub right_arguments : (n : ℕ) (rules : List ℕ) (r i k j : ℕ) → argument_check n rules r i k j ≡ Good → Arguments n rules r i k j
+right_arguments n rules r i k j = (arguments_good n rules r i k j).0
+
 module _ (numbers : Numbers) (rules edges : List ℕ) where
   module _ (r i k j : ℕ) where
-    pub call_good : (have : ℕ) → (call_check numbers rules edges have r i k j ≡ Good)
-        ↔ (Ready numbers rules edges have × Arguments numbers.nodes rules r i k j)
-    unfolding call_check
+    pub call_good : (have : ℕ) → (ask_check numbers rules edges have r i k j ≡ Good)
+        ↔ (StartReady numbers rules edges have × Arguments numbers.nodes rules r i k j)
+    unfolding ask_check
     call_good have = (
       λ e.
           let a = (and_good _ _).0 e in
@@ -93,20 +96,20 @@ module _ (numbers : Numbers) (rules edges : List ℕ) where
 
     -- ---- the step, check by check
     module _ (t : List ℕ) where
-      pub step_stop : (f : Refusal) → call_check numbers rules edges (length t) r i k j ≡ Bad f
-          → step_of numbers rules edges t r i k j ≡ (Refused f, t)
+      pub step_stop : (f : Refusal) → ask_check numbers rules edges (length t) r i k j ≡ Err f
+          → step_of numbers rules edges t r i k j ≡ (Err f, t)
       unfolding step_of step_check
-      step_stop f e = rw (and_stop (cells_check numbers.nodes (length rules / 3) t (ask_of rules r i k j)) e)
+      step_stop f e = rw (and_stop (step_cells_check numbers.nodes (length rules / 3) t (ask_of rules r i k j)) e)
 
-      pub step_next : call_check numbers rules edges (length t) r i k j ≡ Good
+      pub step_next : ask_check numbers rules edges (length t) r i k j ≡ Good
           → step_of numbers rules edges t r i k j ≡ cells_step numbers.nodes (length rules / 3) t (ask_of rules r i k j)
       unfolding step_of step_check cells_step
-      step_next e = rw (and_next {y = cells_check numbers.nodes (length rules / 3) t (ask_of rules r i k j)} e)
+      step_next e = rw (and_next {y = step_cells_check numbers.nodes (length rules / 3) t (ask_of rules r i k j)} e)
 
 module _ (n : ℕ) (t : List ℕ) (s : Step) where
   -- the candidate entered, or 12, is the step by its rule
   pub taken_step : get_or t (target_of n s) 0 ≤ EMPTY
-      → taken t (target_of n s) (min EMPTY (offer n t s)) ≡ answered (height_check n t s) (wins n t s) t (step n t s)
+      → taken t (target_of n s) (min EMPTY (offer n t s)) ≡ step_answer (height_check n t s) (wins n t s) t (step n t s)
   unfolding taken height_check must too_high wins step entered_in
   taken_step few =
       cases (ltb (offer n t s) (get_or t (target_of n s) 0))
@@ -116,13 +119,18 @@ module _ (n : ℕ) (t : List ℕ) (s : Step) where
       taken_no t (target_of n s) (min EMPTY (offer n t s)) (omega arith) ∙ rw (f, step_keeps n t s l))
 
   module _ (rules : ℕ) where
-    pub cells_stop : (f : Refusal) → usable_check n rules t (target_of n s) (left_of n s) (right_of n s) ≡ Bad f
-        → cells_step n rules t s ≡ (Refused f, t)
-    unfolding cells_step cells_check
+    pub cells_stop : (f : Refusal) → usable_check n rules t (target_of n s) (left_of n s) (right_of n s) ≡ Err f
+        → cells_step n rules t s ≡ (Err f, t)
+    unfolding cells_step step_cells_check
     cells_stop f e = rw (and_stop (height_check n t s) e)
 
     pub cells_next : usable_check n rules t (target_of n s) (left_of n s) (right_of n s) ≡ Good → get_or t (target_of n s) 0 ≤ EMPTY
         → cells_step n rules t s
         ≡ taken t (target_of n s) (offered (get_or t (left_of n s) 0) (get_or t (right_of n s) 0) s.middle s.rule)
-    unfolding cells_step cells_check offered offer
+    unfolding cells_step step_cells_check offered offer
     cells_next e few = rw (and_next {y = height_check n t s} e) (sym (taken_step few))
+
+module _ (numbers : Numbers) (rules edges t : List ℕ) (r i k j : ℕ) where
+  pub step_refused : {x : Result Bool Refusal} (f : Refusal) → x ≡ Err f → ask_check numbers rules edges (length t) r i k j ≡ Err f
+      → (x, t) ≡ step_of numbers rules edges t r i k j
+  step_refused f e h = rw e (sym (step_stop numbers rules edges r i k j t f h))

@@ -1,14 +1,15 @@
--- An accepted sequence of calls of the step is a sequence of steps by their rule, so demand 3 speaks of these calls;
+-- An accepted sequence of calls of the step is a sequence of steps by their rule, so what holds of any order of steps holds
+-- of these calls;
 -- and from the start on no possible step is refused. Assumes nothing.
 use mathlib.Core.Path.{◌≡◌, refl, sym, ap, subst, ◌∙◌}
 use mathlib.Core.List.{List, flatten}
-use mathlib.Core.Bool.{Bool, true, false, not}
+use mathlib.Core.Bool.{Bool, false, not}
 use Prim.Native.Nat.{ℕ, ◌+◌, ◌≤◌, ◌<◌}
 use native.Mathlib.Omega.{arith}
 use lib.ListN.{length}
-use Rattle.words.specs.declared.Check.{Check}
-use Rattle.words.specs.declared.Check.TheVariants.{Good, Bad}
 use Rattle.words.proofs.Refusals.{must_good, and_good}
+use Rattle.words.specs.Refusals.{Check, Good}
+use Rattle.words.specs.declared.Reason.TheVariants.{WrongCell, TooHigh}
 use Rattle.key.specs.Keys.{EMPTY, height_of}
 use Rattle.meaning.specs.Net.{Net, Sane}
 use Rattle.meaning.specs.Trees.{Reach, Least}
@@ -27,27 +28,25 @@ use Rattle.lists.specs.Lists.{net}
 use Rattle.lists.proofs.Right.{RightLists, sane}
 use Rattle.start.specs.Calls.{StartCall}
 use Rattle.start.proofs.Order.{start_good}
-use Rattle.step.specs.declared.StepAnswer.{StepAnswer}
-use Rattle.step.specs.declared.StepAnswer.TheVariants.{Unchanged}
-use Rattle.step.specs.Entering.{answered}
-use Rattle.step.specs.Calls.{usable_check, height_check, cells_check, step_check, step_of, Accepts, Ask, asked, Calls, none, call}
+use Rattle.words.specs.declared.Refusal.{Refusal}
+use Rattle.step.specs.Entering.{step_answer}
+use Rattle.step.specs.Calls.{usable_check, height_check, step_cells_check, step_check, step_of, Accepts, asked, Calls, none, call}
+use Rattle.step.specs.declared.Ask.{Ask}
+use Rattle.std.specs.Prelude.{Result, Ok, Err}
 use Rattle.step.proofs.Order.{Arguments, call_good}
 
 -- an answer that accepts comes of a good check, and leaves the table after the step
-by_check : (c : Check) (w : Bool) (t t' u : List ℕ) (a : StepAnswer) → Accepts a → (a, u) ≡ answered c w t t' → (c ≡ Good) × (u ≡ t')
-by_check Good true t t' u a acc e = (refl, ap (λ (z : StepAnswer × List ℕ). z.1) e)
-by_check Good false t t' u a acc e = (refl, ap (λ (z : StepAnswer × List ℕ). z.1) e)
-by_check (Bad r) w t t' u a acc e = absurd (subst Accepts (ap (λ (z : StepAnswer × List ℕ). z.0) e) acc)
+by_check : (c : Check) (w : Bool) (t t' u : List ℕ) (a : Result Bool Refusal) → Accepts a → (a, u) ≡ step_answer c w t t' → (c ≡ Good) × (u ≡ t')
+by_check (Ok _) w t t' u a acc e = (refl, ap (λ (z : Result Bool Refusal × List ℕ). z.1) e)
+by_check (Err r) w t t' u a acc e = absurd (subst Accepts (ap (λ (z : Result Bool Refusal × List ℕ). z.0) e) acc)
 
-good_accepts : (w : Bool) (t t' : List ℕ) → Accepts (answered Good w t t').0
-good_accepts true t t' = tt
-good_accepts false t t' = tt
+good_accepts : (w : Bool) (t t' : List ℕ) → Accepts (step_answer Good w t t').0
+good_accepts w t t' = tt
 
 -- an answer of unchanged comes where no smaller key was offered
-by_unchanged : (c : Check) (w : Bool) (t t' : List ℕ) → (answered c w t t').0 ≡ Unchanged → w ≡ false
-by_unchanged Good true t t' e = cc
-by_unchanged Good false t t' e = refl
-by_unchanged (Bad r) w t t' e = let z : ◌≡◌ {A = ℕ} 0 1 = cc in absurd (omega arith)
+by_unchanged : (c : Check) (w : Bool) (t t' : List ℕ) → (step_answer c w t t').0 ≡ Ok false → w ≡ false
+by_unchanged (Ok _) w t t' e = cc
+by_unchanged (Err r) w t t' e = let z : ◌≡◌ {A = ℕ} 0 1 = cc in absurd (omega arith)
 
 module _ (numbers : Numbers) (rules edges : List ℕ) where
   module _ (t : List ℕ) (r i k j : ℕ) where
@@ -56,7 +55,7 @@ module _ (numbers : Numbers) (rules edges : List ℕ) where
       pub can : Possible (net numbers rules edges) (ask_of rules r i k j)
       pub is : u ≡ step numbers.nodes t (ask_of rules r i k j)
 
-    pub accepted_step : (u : List ℕ) (a : StepAnswer) → Accepts a → (a, u) ≡ step_of numbers rules edges t r i k j → Stepped u
+    pub accepted_step : (u : List ℕ) (a : Result Bool Refusal) → Accepts a → (a, u) ≡ step_of numbers rules edges t r i k j → Stepped u
     unfolding step_of step_check
     accepted_step u a acc e =
         let b = by_check _ _ t _ u a acc e in
@@ -67,7 +66,7 @@ module _ (numbers : Numbers) (rules edges : List ℕ) where
         }
 
     -- a call that answers unchanged made a step that changes nothing
-    unchanged_step : (step_of numbers rules edges t r i k j).0 ≡ Unchanged → step numbers.nodes t (ask_of rules r i k j) ≡ t
+    unchanged_step : (step_of numbers rules edges t r i k j).0 ≡ Ok false → step numbers.nodes t (ask_of rules r i k j) ≡ t
     unfolding step_of
     unchanged_step e =
         step_keeps numbers.nodes t (ask_of rules r i k j)
@@ -88,7 +87,7 @@ module _ (numbers : Numbers) (rules edges : List ℕ) where
 
   -- a table on which every call with arguments in range answers unchanged is still
   pub calls_still : (t : List ℕ)
-      → ((r i k j : ℕ) → Arguments numbers.nodes rules r i k j → (step_of numbers rules edges t r i k j).0 ≡ Unchanged)
+      → ((r i k j : ℕ) → Arguments numbers.nodes rules r i k j → (step_of numbers rules edges t r i k j).0 ≡ Ok false)
       → Still (net numbers rules edges) t
   calls_still t same = record {
     step = λ s can.
@@ -111,7 +110,7 @@ module _ (numbers : Numbers) (rules edges : List ℕ) where
     steps : Steps t asks u
     steps = calls_steps calls
 
-    -- demand 3, of these calls: each filled cell has a real path with a tree of the recorded height
+    -- each filled cell has a real path with a tree of the recorded height
     pub calls_sound : Each g (λ A i j. at g.nodes u A i j < EMPTY → (p : List ℕ) × Reach g A i j (height_of (at g.nodes u A i j)) p)
     calls_sound = rw steps.is (sound_always ok t (start_sound ok t start.leaves.start) (asked rules asks) steps.can)
 
@@ -129,7 +128,7 @@ module _ (numbers : Numbers) (rules edges : List ℕ) where
     module _ (r i k j : ℕ) (args : Arguments numbers.nodes rules r i k j) where
       -- no step with arguments in range is refused
       pub never_refused : step_check numbers rules edges u r i k j ≡ Good
-      unfolding step_check cells_check usable_check height_check
+      unfolding step_check step_cells_check usable_check height_check
       never_refused =
           let can =
           ask_possible numbers.nodes numbers.nonterminals rules edges r i k j args.rule args.pair args.from args.middle args.to in
@@ -140,10 +139,10 @@ module _ (numbers : Numbers) (rules edges : List ℕ) where
             rw steps.is
                 ((and_good _ _).1 (
                   (and_good _ _).1 (
-                    (must_good _ 11 _).1 free.target,
-                    (and_good _ _).1 ((must_good _ 11 _).1 free.left, (must_good _ 11 _).1 free.right),
+                    (must_good _ WrongCell _).1 free.target,
+                    (and_good _ _).1 ((must_good _ WrongCell _).1 free.left, (must_good _ WrongCell _).1 free.right),
                   ),
-                  (must_good _ 12 _).1 (ap not free.low),
+                  (must_good _ TooHigh _).1 (ap not free.low),
                 )),
           )
 

@@ -1,42 +1,51 @@
-// Numbers into a buffer that is written out when it is nearly full. What does not fit is dropped; a line always fits.
+// Text on its way to the standard output, written out when the buffer is full and at the end. It takes every text: what cannot
+// be written is passed over. Not `println!`, whose proof rests on more of the C library than `io::write_all`.
+ghost use Rattle.std.specs.Prelude.{◌≡◌, ◌≤◌};
 
-fn byte(text: &mut [u8], at: usize, b: u8) -> usize {
-    if at < text.len() {
-        text[at] = b;
-        return at + 1;
+use std::fmt;
+use std::fmt::Write;
+
+const CAPACITY: usize = 65536;
+
+pub(crate) struct Out {
+    bytes: [u8; CAPACITY],
+    len: usize,
+    ghost in_range: { len ≤ 65536 },
+}
+
+impl Out {
+    pub(crate) fn new() -> Out {
+        Out {
+            bytes: [0; CAPACITY],
+            len: 0,
+        }
     }
-    at
-}
 
-fn copy(text: &mut [u8], at: usize, s: &[u8]) -> usize {
-    let mut to = at;
-    let mut i = 0;
-    while i < s.len() {
-        to = byte(text, to, s[i]);
-        i += 1;
-    }
-    to
-}
-
-// A number and the byte behind it.
-pub(crate) fn put(text: &mut [u8], at: usize, x: u64, end: u8) -> usize {
-    let mut digits = [0u8; 20];
-    let k = io::decimal(x, &mut digits);
-    let to = copy(text, at, &digits[..k]);
-    byte(text, to, end)
-}
-
-pub(crate) fn write(text: &[u8], at: usize) {
-    if at < text.len() {
-        io::write_all(1, &text[..at]);
+    fn flush(&mut self)
+        ensures { self.new.len ≡ 0 }
+    {
+        let all = &self.bytes[..];
+        io::write_all(1, &all[..self.len]);
+        self.len = 0;
     }
 }
 
-// Room for a line: at most 200 bytes.
-pub(crate) fn flush(text: &[u8], at: usize) -> usize {
-    if at < 65336 {
-        return at;
+impl Drop for Out {
+    fn drop(self) {
+        let Out { bytes, len } = self;
+        io::write_all(1, &bytes[..len]);
     }
-    write(text, at);
-    0
+}
+
+impl Write for Out {
+    fn write_str(&mut self, s: &str) -> fmt::Result {
+        for b in s.as_bytes() {
+            if self.len == CAPACITY {
+                self.flush();
+            }
+            self.bytes[self.len] = *b;
+            self.len += 1;
+        }
+        Ok(())
+    }
 }

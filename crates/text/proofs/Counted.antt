@@ -35,7 +35,7 @@ module _ {g : Net} (ok : Sane g) {t ls : List ℕ} {A : ℕ} where
       let e = ap (pair_line g t ls A (c / g.nodes) (c % g.nodes)) (tail_one p q) in
       (rw (s.0, e), ap suc s.1)
 
-  -- "Pairs counts those lines": as many as demand 2 reaches
+  -- the lines are as many as the pairs that are reached
   pub pairs_reached : FinalTable g t → A < g.nonterminals → {c k : ℕ} {w : List ℕ} → c ≤ g.nodes * g.nodes → Lines g t ls A c w k
       → Counted (λ c. Reached g A (c / g.nodes) (c % g.nodes)) c k
   pairs_reached final a b Lines.none = Counted.none

@@ -37,9 +37,11 @@ more (suc f) x h =
     (λ t. rw t)
     (λ e. let l : x / 10 < 10 ^ suc f = omega (arith, rw pow-suc at h) in rw e (ap (λ w. w ++ ((48 + x % 10) ∷ [])) (more f (x / 10) l)))
 
-pub decimal_one : (x : ℕ) → x < 10 → decimal x ≡ (48 + x) ∷ []
+pub decimal_one : (x : ℕ) → x < 10 → decimal x ≡ (48 + x % 10) ∷ []
 unfolding decimal_in
-decimal_one x h = rw (lt-ltb x 10 h)
+decimal_one x h =
+    let e : x % 10 ≡ x = omega arith in
+    rw (lt-ltb x 10 h, e)
 
 pub decimal_more : (x : ℕ) → 10 ≤ x → x < 18446744073709551616 → decimal x ≡ decimal (x / 10) ++ ((48 + x % 10) ∷ [])
 unfolding decimal_in

@@ -6,4 +6,6 @@ pub mod Tails
 pub mod Counted
 pub mod Lined
 pub mod Reports
+pub mod Runs
+pub mod Rooms
 pub mod Settled

@@ -5,10 +5,10 @@ use Prim.Native.Nat.{ℕ, ◌*◌, ◌/◌, ◌%◌}
 use native.Mathlib.Omega.{arith}
 use lib.ListN.{length, drop}
 use lib.Seq.{drop-length}
-use Rattle.words.specs.declared.Check.{Check}
-use Rattle.words.specs.declared.Check.TheVariants.{Good, Bad}
 use Rattle.words.specs.Tab.{over}
 use Rattle.words.proofs.Refusals.{and_good}
+use Rattle.words.specs.Refusals.{Check, Good}
+use Rattle.std.specs.Prelude.{Option, Some, None, Ok, Err}
 use Rattle.meaning.specs.Net.{Net, Sane}
 use Rattle.meaning.specs.Trees.{Reached}
 use Rattle.meaning.specs.Table.{cells}
@@ -22,8 +22,6 @@ use Rattle.deck.specs.declared.Header.{Header}
 use Rattle.deck.specs.Reads.{header_of, deck_check, rules_of, edges_of}
 use Rattle.deck.proofs.Handed.{right_deck, limited}
 use Rattle.deck.proofs.Lists.{accepted_lists}
-use Rattle.text.specs.declared.ReportAnswer.{ReportAnswer}
-use Rattle.text.specs.declared.ReportAnswer.TheVariants.{Wrote, Short}
 use Rattle.text.specs.Report.{report_check, net_in, Whole, Reported, Report, ReportIs}
 use Rattle.text.proofs.Counted.{Counted, lines_one, pairs_reached}
 
@@ -60,26 +58,26 @@ unfolding report_check
 report_one d {v} {w} x y = go (report_check d) refl x y
   where
     go : (c : Check) → report_check d ≡ c → Reported c (header_of d) (rules_of d) (edges_of d) v → Reported c (header_of d) (rules_of d) (edges_of d) w → v ≡ w
-    go Good e p q = whole_one (sane_deck d ((and_good _ _).0 e).0) p q
-    go (Bad r) e p q = p ∙ sym q
+    go (Ok tt) e p q = whole_one (sane_deck d ((and_good _ _).0 e).0) p q
+    go (Err r) e p q = p ∙ sym q
 
 -- the answer and the text at the exit
-pub record Same (r s : ReportAnswer) (x y : List ℕ) : Type 0 where
+pub record SameReport (r s : Option ℕ) (x y : List ℕ) : Type 0 where
   pub answer : r ≡ s
   pub text : x ≡ y
 
-pub report_settled : (d entry x y : List ℕ) (r s : ReportAnswer) → ReportIs d entry x r → ReportIs d entry y s → Same r s x y
-report_settled d entry x y Short Short (_, e) (_, f) = record { answer = refl; text = e ∙ sym f }
-report_settled d entry x y Short (Wrote n) (h, e) (l, f) = absurd (omega arith)
-report_settled d entry x y (Wrote n) Short (h, e) (l, f) = absurd (omega arith)
-report_settled d entry x y (Wrote n) (Wrote m) (_, e) (_, f) =
+pub report_settled : (d entry x y : List ℕ) (r s : Option ℕ) → ReportIs d entry x r → ReportIs d entry y s → SameReport r s x y
+report_settled d entry x y None None (_, e) (_, f) = record { answer = refl; text = e ∙ sym f }
+report_settled d entry x y None (Some n) (h, e) (l, f) = absurd (omega arith)
+report_settled d entry x y (Some n) None (h, e) (l, f) = absurd (omega arith)
+report_settled d entry x y (Some n) (Some m) (_, e) (_, f) =
     let o = report_one d e.is f.is in
     record {
-      answer = ap Wrote (e.count ∙ ap length o ∙ sym f.count);
+      answer = ap Some (e.count ∙ ap length o ∙ sym f.count);
       text = e.text ∙ ap (λ w. over w entry) o ∙ sym f.text;
     }
 
--- "a report with invented pairs or depth", "both are counts of demand 2's cells"
+-- no report invents pairs or depth: both are counts of what is reached
 module _ (d : List ℕ) (e : report_check d ≡ Good) {w : List ℕ} (x : Whole (header_of d) (rules_of d) (edges_of d) w) where
   right : deck_check d ≡ Good
   unfolding report_check

@@ -2,67 +2,71 @@
 use mathlib.Core.Path.{◌≡◌, sym, ap, ◌∙◌}
 use mathlib.Core.List.{List}
 use mathlib.Core.Logic.{⊎_elim}
-use Prim.Native.Nat.{ℕ, ◌+◌, ◌*◌, ◌≤◌, ◌<◌}
+use Prim.Native.Nat.{ℕ, ◌≤◌, ◌<◌}
 use native.Mathlib.Omega.{arith}
 use lib.ListN.{length, take}
+use Rattle.std.specs.Prelude.{Result, Ok, Err}
 use Rattle.words.specs.declared.Refusal.{Refusal}
-use Rattle.words.specs.declared.Check.TheVariants.{Bad}
 use Rattle.words.proofs.Tab.{length_over, take-over}
 use Rattle.words.proofs.Refusals.{good_bad}
-use Rattle.meaning.specs.Table.{at}
 use Rattle.meaning.proofs.Recorded.{recorded_length}
-use Rattle.numbers.specs.declared.Numbers.{Numbers}
-use Rattle.lists.specs.Lists.{net}
 use Rattle.lists.proofs.Right.{accepted, sane}
+use Rattle.numbers.specs.declared.Numbers.{Numbers}
 use Rattle.witness.specs.Answers.{witness_check, Answered, Witnessed}
-use Rattle.witness.specs.declared.WitnessAnswer.{WitnessAnswer}
-use Rattle.witness.specs.declared.WitnessAnswer.TheVariants.{Wrote, Refused}
 use Rattle.witness.proofs.Exact.{witness_good}
 use Rattle.witness.proofs.Worth.{run_witness}
+use Rattle.text.specs.declared.query.Query.{Query}
 use Rattle.text.specs.Text.{path_text}
 use Rattle.text.specs.Pairs.{Tail}
-use Rattle.text.specs.Pen.{Ready, FilledAt}
+use Rattle.text.specs.Queried.{checked_numbers, length_at}
+use Rattle.text.specs.Penned.{FinalQuery, PairAt, TailOf}
 
--- where a path's text ends, and `long`
-pub path_room : (from words : ℕ) {to : ℕ} → to ≤ from + 6 * words → words ≤ 1024 → to ≤ from + 6144
-path_room from words h l = omega arith
+module _ (q : Query) (i j : ℕ) (entry exit : List ℕ) (room : length entry ≤ 1024) where
+  abbrev numbers : Numbers
+  numbers = checked_numbers q.checked
 
-pub letters_room : {from : ℕ} → from < 4611686018427387904 → from + 5 < 9223372036854775808
-letters_room h = omega arith
+  abbrev rules : List ℕ
+  rules = q.checked.held.lists.rules.now
 
-module _ (numbers : Numbers) (rules edges t ls : List ℕ) (A i j : ℕ) where
+  abbrev edges : List ℕ
+  edges = q.checked.held.lists.edges.now
+
+  abbrev table : List ℕ
+  table = q.checked.held.table.now
+
+  abbrev lengths : List ℕ
+  lengths = q.checked.held.lengths.now
+
+  -- what the witness of the cell answers
+  abbrev Answer : Result ℕ Refusal → Type 0
+  Answer r = Witnessed numbers rules edges q.head i j table lengths entry exit r
+
   -- a written path is the whole recorded one
-  pub record Shown (exit : List ℕ) (n : ℕ) : Type 0 where
+  pub record WholePath (n : ℕ) : Type 0 where
     pub fits : n ≤ length exit
-    pub count : length (take n exit) ≡ n
-    pub few : length (take n exit) ≤ 1024
-    pub tail : Tail (net numbers rules edges) t ls A i j (path_text (take n exit))
+    pub tail : TailOf q i j (path_text (take n exit))
 
-  pub tail_shown : {entry exit : List ℕ} {n : ℕ} {r : WitnessAnswer} → length entry ≤ 1024 → r ≡ Wrote n
-      → Witnessed numbers rules edges A i j t ls entry exit r → Shown exit n
-  tail_shown {entry} {exit} {n} room e w = go (rw e at w)
+  pub tail_shown : {n : ℕ} {r : Result ℕ Refusal} → r ≡ Ok n → Answer r → WholePath n
+  tail_shown {n} e w = go (rw e at w)
     where
-      go : Witnessed numbers rules edges A i j t ls entry exit (Wrote n) → Shown exit n
+      go : Answer (Ok n) → WholePath n
       go (Answered.wrote p good way count words) =
-          let h = (witness_good numbers rules edges t ls A i j (length entry)).0 good in
+          let h = (witness_good numbers rules edges table lengths q.head i j (length entry)).0 good in
           let e = recorded_length (sane numbers rules edges (accepted numbers rules edges h.0.lists)) h.0.right way h.2 in
           let few : length p ≤ length entry = omega (arith, h.3) in
           let same : take n exit ≡ p = rw words (take-over p entry n (sym count)) in
           record {
             fits = omega (arith, count, ap length words ∙ length_over p entry few);
-            count = ap length same ∙ sym count;
-            few = omega (arith, ap length same);
             tail = rw same (Tail.shown (omega (arith, h.3)) way);
           }
 
   -- a refused one has no room
-  pub tail_long : {entry exit : List ℕ} {s : WitnessAnswer} {r : Refusal} → length entry ≤ 1024 → s ≡ Refused r → Ready numbers rules edges t ls A → FilledAt numbers.nodes t A i j
-      → Witnessed numbers rules edges A i j t ls entry exit s → length entry < at numbers.nodes ls A i j
-  tail_long {entry} {exit} {r = r} room e ready cell w =
+  pub tail_long : {s : Result ℕ Refusal} {r : Refusal} → 1024 ≤ length entry → s ≡ Err r → FinalQuery q → PairAt q i j → Answer s → 1024 < length_at q.checked q.head i j
+  tail_long {r = r} all e final_query cell w =
       ⊎_elim
       (λ good. absurd (good_bad (sym good ∙ bad (rw e at w))))
       (λ none. ⊎_elim (λ l. omega arith) (λ l. omega arith) none.1)
-      (run_witness numbers rules edges t ls A i j ready.lists ready.final ready.lengths ready.head cell.from cell.to cell.filled (length entry))
+      (run_witness numbers rules edges table lengths q.head i j q.checked.held.lists.passed final_query.final final_query.lengths q.in_range cell.from cell.to cell.filled (length entry))
     where
-      bad : Witnessed numbers rules edges A i j t ls entry exit (Refused r) → witness_check numbers rules edges A i j t ls (length entry) ≡ Bad r
+      bad : Answer (Err r) → witness_check numbers rules edges q.head i j table lengths (length entry) ≡ Err r
       bad (Answered.refused b same) = b

@@ -21,7 +21,7 @@ decimal x = decimal_in 20 x
 abbrev pub labelled : String → ℕ → List ℕ
 labelled s x = ascii s ++ decimal x
 
--- "graph 5 nodes 5 edges 4 nonterminals 7 rules"
+-- graph 5 nodes 5 edges 4 nonterminals 7 rules
 unfoldable pub opening_line : ℕ → ℕ → ℕ → ℕ → List ℕ
 opening_line nodes edges nonterminals rules =
     labelled "graph " nodes ++ labelled " nodes " edges ++ labelled " edges " nonterminals ++ labelled " nonterminals " rules ++ ascii " rules\n"
@@ -31,15 +31,15 @@ unfoldable pub path_text : List ℕ → List ℕ
 path_text [] = []
 path_text (e ∷ p) = labelled " " e ++ path_text p
 
--- "0 3 h 3 m 1 l 3 : 0 1 2": "i, j, height, middle, length, edge numbers", up to the colon
+-- 0 3 h 3 m 1 l 3 : 0 1 2, up to the colon: i, j, height, middle and length; behind it come the edge numbers
 unfoldable pub pair_head : ℕ → ℕ → ℕ → ℕ → ℕ → List ℕ
 pair_head i j height middle len =
     decimal i ++ labelled " " j ++ labelled " h " height ++ labelled " m " middle ++ labelled " l " len ++ ascii " :"
 
--- "pairs 5 depth 4"
+-- pairs 5 depth 4
 unfoldable pub closing_line : ℕ → ℕ → List ℕ
 closing_line pairs depth = labelled "pairs " pairs ++ labelled " depth " depth ++ ascii "\n"
 
--- "refused N at P"
+-- refused 6 at 1
 unfoldable pub refused_line : ℕ → ℕ → List ℕ
 refused_line number place = labelled "refused " number ++ labelled " at " place ++ ascii "\n"

@@ -1,10 +1,9 @@
 -- What the checks of lists, arguments and table are good for. Assumes nothing.
 use mathlib.Core.Path.{◌≡◌}
 use mathlib.Core.List.{List}
-use Prim.Native.Nat.{ℕ}
+use Prim.Native.Nat.{ℕ, ◌<◌}
 use borrow.Author.Tests.{ltb-true}
-use Rattle.words.specs.declared.Check.TheVariants.{Good}
-use Rattle.words.specs.Refusals.{◌and_then◌}
+use Rattle.words.specs.Refusals.{◌and_then◌, Good}
 use Rattle.words.proofs.Refusals.{must_good, and_good, scan_good}
 use Rattle.meaning.specs.Lengths.{RightCell, RightTable}
 use Rattle.meaning.proofs.Cells.{numbers_cells, cells_numbers}
@@ -22,18 +21,19 @@ module _ (numbers : Numbers) (rules edges : List ℕ) where
       let ok = accepted numbers rules edges e in
       record { some = ok.nodes.low; nodes = ok.nodes.high; nonterminals = ok.nonterminals.high }
 
-  pub asked : (a i j : ℕ) → lists_check numbers rules edges and_then arguments_check numbers a i j ≡ Good → Asked numbers a i j
+  -- arguments in range
+  pub in_range : {a i j : ℕ} → arguments_check numbers a i j ≡ Good → (a < numbers.nonterminals) × (i < numbers.nodes) × (j < numbers.nodes)
   unfolding arguments_check
+  in_range e =
+      let c = (and_good _ _).0 e in
+      let d = (and_good _ _).0 c.1 in
+      (ltb-true _ _ ((must_good _ _ _).0 c.0), ltb-true _ _ ((must_good _ _ _).0 d.0), ltb-true _ _ ((must_good _ _ _).0 d.1))
+
+  pub asked : (a i j : ℕ) → lists_check numbers rules edges and_then arguments_check numbers a i j ≡ Good → Asked numbers a i j
   asked a i j e =
       let b = (and_good _ _).0 e in
-      let c = (and_good _ _).0 b.1 in
-      let d = (and_good _ _).0 c.1 in
-      record {
-        sizes = sizes b.0;
-        head = ltb-true _ _ ((must_good _ _ _).0 c.0);
-        from = ltb-true _ _ ((must_good _ _ _).0 d.0);
-        to = ltb-true _ _ ((must_good _ _ _).0 d.1);
-      }
+      let c = in_range b.1 in
+      record { sizes = sizes b.0; head = c.0; from = c.1; to = c.2 }
 
   module _ (t ls : List ℕ) where
     abbrev n : ℕ

@@ -1,5 +1,5 @@
--- What each call accepts, and the refusals 15, 10, 11 and 14 'given exactly when'. Assumes nothing.
-use mathlib.Core.Path.{◌≡◌, refl, sym, ◌∙◌}
+-- What each call accepts, and when each refusal of its own is given. Assumes nothing.
+use mathlib.Core.Path.{◌≡◌, refl, sym, ap, ◌∙◌}
 use mathlib.Core.List.{List}
 use mathlib.Core.Bool.{Bool, true, false, true≢false}
 use mathlib.Core.Logic.Iff
@@ -11,11 +11,11 @@ use lib.Dec.{ltb, leb}
 use borrow.Author.Tests.{ltb-true, ltb-false, lt-ltb, le-ltb, leb-true, leb-false, le-leb, lt-leb}
 use borrow.Table.Steps.{cases}
 use Rattle.key.specs.Keys.{EMPTY}
+use Rattle.words.specs.declared.Reason.{Reason}
 use Rattle.words.specs.declared.Refusal.{Refusal}
-use Rattle.words.specs.declared.Check.{Check}
-use Rattle.words.specs.declared.Check.TheVariants.{Good}
-use Rattle.words.specs.Refusals.{refused, must, ◌and_then◌}
-use Rattle.words.proofs.Refusals.{must_good, must_given, must_next, three_given, and_good, and_assoc, Only, only_must, only_and, only_scan, and_first, and_past, and_second, LowestWrong, scan_must}
+use Rattle.words.specs.Refusals.{number_of, refused, must, ◌and_then◌, Check, Good}
+use Rattle.words.proofs.Refusals.{differs, must_good, must_given, must_next, three_given, and_good, and_assoc, Only, only_must, only_and, only_scan, and_first, and_past, and_second, LowestWrong, scan_must}
+use Rattle.words.specs.declared.Reason.TheVariants.{TooShort, WrongCell, NoPath, WrongArgument}
 use Rattle.meaning.specs.Table.{at, cell, cells}
 use Rattle.meaning.specs.Net.{Net}
 use Rattle.meaning.specs.Lengths.{HELD, RightCell, RightTable}
@@ -42,7 +42,7 @@ pub record LowestFault (g : Net) (t ls : List ℕ) (c : ℕ) : Type 0 where
   pub fault : RightAt g t ls c → ⊥
   pub lower : (k : ℕ) → k < c → RightAt g t ls k
 
--- "the recorded length exceeds the buffer's words or is 4,294,967,295", which no length word exceeds
+-- the recorded length exceeds the words lent for the path, or is 4,294,967,295, which no length word exceeds
 abbrev pub NoRoom : ℕ → ℕ → Type 0
 NoRoom words l = (words < l) ⊎ (HELD ≤ l)
 
@@ -62,7 +62,7 @@ module _ (numbers : Numbers) (rules edges t ls : List ℕ) where
   abbrev g : Net
   g = net numbers rules edges
 
-  -- "The table check accepts exactly when every cell is .."
+  -- the table check accepts exactly the right tables
   pub check_good : (check_answer numbers rules edges t ls ≡ Good) ↔ ((lists_check numbers rules edges ≡ Good) × RightTable g t ls)
   unfolding check_answer
   check_good = (
@@ -95,22 +95,22 @@ module _ (numbers : Numbers) (rules edges t ls : List ℕ) where
     rest = λ k b. tell k (f.lower k b);
   }
 
-  -- the table check's refusals: 10 for the table and the lengths, and 11
-  table_only : (P : Refusal → Type 0) → P (record { number = 10; place = 0 }) → P (record { number = 10; place = 1 })
-      → ((c : ℕ) → P (record { number = 11; place = c })) → Only P (table_check numbers rules edges t ls)
+  -- the table check's refusals: table or lengths too short, and a wrong cell
+  table_only : (P : Refusal → Type 0) → P (record { reason = TooShort; place = 0 }) → P (record { reason = TooShort; place = 1 })
+      → ((c : ℕ) → P (record { reason = WrongCell; place = c })) → Only P (table_check numbers rules edges t ls)
   unfolding table_check room_check cell_check
   table_only P x y z =
-      only_and P _ _ (only_must P _ 10 0 x)
-      (λ _. only_and P _ _ (only_must P _ 10 1 y) (λ _. only_scan P _ _ (λ c _. only_must P _ 11 c (z c))))
+      only_and P _ _ (only_must P _ TooShort 0 x)
+      (λ _. only_and P _ _ (only_must P _ TooShort 1 y) (λ _. only_scan P _ _ (λ c _. only_must P _ WrongCell c (z c))))
 
-  -- 10 exactly if the table is too short, or else the lengths
-  table_ten : (p : ℕ) → (table_check numbers rules edges t ls ≡ refused 10 p)
+  -- too short exactly if the table is, or else the lengths
+  table_ten : (p : ℕ) → (table_check numbers rules edges t ls ≡ refused TooShort p)
       ↔ (((length t < cells g) × (p ≡ 0)) ⊎ ((cells g ≤ length t) × (length ls < cells g) × (p ≡ 1)))
   unfolding table_check room_check cell_check
   table_ten p =
-      let other : ◌≢◌ {A = ℕ} 11 10 = omega arith in
-      let x = must_next (leb (cells_of numbers) (length t)) 10 0 _ p in
-      let y = and_first (room_check 1 (cells_of numbers) (length ls)) _ 10 p (only_scan _ _ (cells_of numbers) (λ c _. only_must _ _ 11 c other)) in
+      let other : WrongCell ≢ TooShort = differs (omega arith) in
+      let x = must_next (leb (cells_of numbers) (length t)) TooShort 0 _ p in
+      let y = and_first (room_check 1 (cells_of numbers) (length ls)) _ TooShort p (only_scan _ _ (cells_of numbers) (λ c _. only_must _ _ WrongCell c other)) in
       let z = room_given 1 (cells_of numbers) (length ls) p in (
         λ e. ⊎_elim
             (λ h. inl (leb-false _ _ h.0, h.1))
@@ -119,14 +119,14 @@ module _ (numbers : Numbers) (rules edges t ls : List ℕ) where
         λ h. x.1 (⊎_elim (λ b. inl (lt-leb _ _ b.0, b.1)) (λ b. inr (le-leb _ _ b.0, y.1 (z.1 (b.1, b.2)))) h),
       )
 
-  -- 11 exactly at the lowest cell that is not right
-  table_eleven : (c : ℕ) → (table_check numbers rules edges t ls ≡ refused 11 c) ↔ LowestFault g t ls c
+  -- a wrong cell exactly at the lowest cell that is not right
+  table_eleven : (c : ℕ) → (table_check numbers rules edges t ls ≡ refused WrongCell c) ↔ LowestFault g t ls c
   unfolding table_check room_check cell_check
   table_eleven c =
-      let other : ◌≢◌ {A = ℕ} 10 11 = omega arith in
-      let x = and_second (room_check 0 (cells_of numbers) (length t)) _ 11 c (only_must _ _ _ _ other) in
-      let y = and_second (room_check 1 (cells_of numbers) (length ls)) _ 11 c (only_must _ _ _ _ other) in
-      let z = scan_must right 11 (cells_of numbers) c in (
+      let other : TooShort ≢ WrongCell = differs (omega arith) in
+      let x = and_second (room_check 0 (cells_of numbers) (length t)) _ WrongCell c (only_must _ _ _ _ other) in
+      let y = and_second (room_check 1 (cells_of numbers) (length ls)) _ WrongCell c (only_must _ _ _ _ other) in
+      let z = scan_must right WrongCell (cells_of numbers) c in (
         λ e.
             let a = x.0 e in
             let b = y.0 a.1 in
@@ -134,15 +134,15 @@ module _ (numbers : Numbers) (rules edges t ls : List ℕ) where
         λ f. x.1 ((room_good 0 _ _).1 f.long, y.1 ((room_good 1 _ _).1 f.lengths, z.1 (wrong c f))),
       )
 
-  pub check_ten : (p : ℕ) → (check_answer numbers rules edges t ls ≡ refused 10 p)
+  pub check_ten : (p : ℕ) → (check_answer numbers rules edges t ls ≡ refused TooShort p)
       ↔ ((lists_check numbers rules edges ≡ Good)
       × (((length t < cells g) × (p ≡ 0)) ⊎ ((cells g ≤ length t) × (length ls < cells g) × (p ≡ 1))))
   unfolding check_answer
-  check_ten p = Iff.trans (and_second _ _ 10 p (lists_other numbers rules edges 10 (omega arith))) (Iff.and Iff.rfl (table_ten p))
+  check_ten p = Iff.trans (and_second _ _ TooShort p (lists_other numbers rules edges TooShort (omega arith))) (Iff.and Iff.rfl (table_ten p))
 
-  pub check_eleven : (c : ℕ) → (check_answer numbers rules edges t ls ≡ refused 11 c) ↔ ((lists_check numbers rules edges ≡ Good) × LowestFault g t ls c)
+  pub check_eleven : (c : ℕ) → (check_answer numbers rules edges t ls ≡ refused WrongCell c) ↔ ((lists_check numbers rules edges ≡ Good) × LowestFault g t ls c)
   unfolding check_answer
-  check_eleven c = Iff.trans (and_second _ _ 11 c (lists_other numbers rules edges 11 (omega arith))) (Iff.and Iff.rfl (table_eleven c))
+  check_eleven c = Iff.trans (and_second _ _ WrongCell c (lists_other numbers rules edges WrongCell (omega arith))) (Iff.and Iff.rfl (table_eleven c))
 
   -- what a witness asks before it looks at its cell
   pub record Ask (a i j : ℕ) : Type 0 where
@@ -170,21 +170,24 @@ module _ (numbers : Numbers) (rules edges t ls : List ℕ) where
           let r = asked numbers rules edges a i j ((and_good _ _).1 (b.0, c.0)) in
           record { lists = b.0; head = r.head; from = r.from; to = r.to; right = table_right numbers rules edges t ls c.1 },
       λ q.
-          let x = (must_good (ltb a numbers.nonterminals) 15 0).1 (lt-ltb _ _ q.head) in
-          let y = (must_good (ltb i n) 15 1).1 (lt-ltb _ _ q.from) in
-          let z = (must_good (ltb j n) 15 2).1 (lt-ltb _ _ q.to) in
+          let x = (must_good (ltb a numbers.nonterminals) WrongArgument 0).1 (lt-ltb _ _ q.head) in
+          let y = (must_good (ltb i n) WrongArgument 1).1 (lt-ltb _ _ q.from) in
+          let z = (must_good (ltb j n) WrongArgument 2).1 (lt-ltb _ _ q.to) in
           (and_good _ _).1 (q.lists, (and_good _ _).1 ((and_good _ _).1 (x, (and_good _ _).1 (y, z)), right_table numbers rules edges t ls q.right)),
     )
 
-    -- and have refusals other than 14, and 10 for the path
-    others : Only (λ r. (r.number ≢ 14) × (r.number ≡ 10 → r.place < 2)) before
+    -- and have refusals other than an empty cell, or no room for the path
+    others : Only (λ r. (r.reason ≢ NoPath) × (r.reason ≡ TooShort → r.place < 2)) before
     unfolding arguments_check
     others =
-        only_and _ _ _ (λ r e. let h = (given_only numbers rules edges r e).0 in (omega arith, λ q. omega arith))
+        only_and _ _ _ (λ r e. let h = (given_only numbers rules edges r e).0 in (λ q. omega (arith, ap number_of q), λ q. omega (arith, ap number_of q)))
         (λ _. only_and _ (arguments_check numbers a i j) _
-        (only_and _ _ _ (only_must _ _ 15 0 (omega arith, λ q. omega arith))
-        (λ _. only_and _ _ _ (only_must _ _ 15 1 (omega arith, λ q. omega arith)) (λ _. only_must _ _ 15 2 (omega arith, λ q. omega arith))))
-        (λ _. table_only _ (omega arith, λ q. omega arith) (omega arith, λ q. omega arith) (λ c. (omega arith, λ q. omega arith))))
+        (only_and _ _ _ (only_must _ _ WrongArgument 0 (own_argument 0))
+        (λ _. only_and _ _ _ (only_must _ _ WrongArgument 1 (own_argument 1)) (λ _. only_must _ _ WrongArgument 2 (own_argument 2))))
+        (λ _. table_only _ (differs (omega arith), λ q. omega arith) (differs (omega arith), λ q. omega arith) (λ c. (differs (omega arith), λ q. absurd (omega (arith, ap number_of q))))))
+      where
+        own_argument : (p : ℕ) → (WrongArgument ≢ NoPath) × (WrongArgument ≡ TooShort → p < 2)
+        own_argument p = (differs (omega arith), λ q. absurd (omega (arith, ap number_of q)))
 
     window_parts : window_check numbers rules edges a i j t ls ≡ before and_then path_check n a i j t ls
     unfolding window_check
@@ -213,8 +216,8 @@ module _ (numbers : Numbers) (rules edges t ls : List ℕ) where
       λ h. (and_good _ _).1 (window_good.1 (h.0, h.1, h.2), (room_good _ _ _).1 h.3),
     )
 
-    -- 15 exactly if the lists are right, at the first argument out of range
-    pub witness_fifteen : (words p : ℕ) → (witness_check numbers rules edges a i j t ls words ≡ refused 15 p)
+    -- a wrong argument exactly if the lists are right, at the first argument out of range
+    pub witness_fifteen : (words p : ℕ) → (witness_check numbers rules edges a i j t ls words ≡ refused WrongArgument p)
         ↔ ((lists_check numbers rules edges ≡ Good)
         × (((numbers.nonterminals ≤ a) × (p ≡ 0))
         ⊎ ((a < numbers.nonterminals) × (n ≤ i) × (p ≡ 1))
@@ -222,28 +225,28 @@ module _ (numbers : Numbers) (rules edges t ls : List ℕ) where
     unfolding witness_check window_check arguments_check path_check room_check
     witness_fifteen words p =
         Iff.trans
-        (and_first (window_check numbers rules edges a i j t ls) _ 15 p (only_must _ _ 10 2 (omega arith)))
+        (and_first (window_check numbers rules edges a i j t ls) _ WrongArgument p (only_must _ _ TooShort 2 (differs (omega arith))))
         (Iff.trans
-        (and_second (lists_check numbers rules edges) _ 15 p (lists_other numbers rules edges 15 (omega arith)))
+        (and_second (lists_check numbers rules edges) _ WrongArgument p (lists_other numbers rules edges WrongArgument (omega arith)))
         (Iff.and Iff.rfl
         (Iff.trans
-        (and_first (arguments_check numbers a i j) _ 15 p
-        (only_and _ _ _ (table_only _ (omega arith) (omega arith) (λ c. omega arith))
-        (λ _. only_and _ _ _ (only_must _ _ 14 _ (omega arith)) (λ _. only_must _ _ 10 2 (omega arith)))))
-        (three_given 15 0 1 2 p (under a numbers.nonterminals) (over a numbers.nonterminals) (under i n) (over i n) (over j n)))))
+        (and_first (arguments_check numbers a i j) _ WrongArgument p
+        (only_and _ _ _ (table_only _ (differs (omega arith)) (differs (omega arith)) (λ c. differs (omega arith)))
+        (λ _. only_and _ _ _ (only_must _ _ NoPath _ (differs (omega arith))) (λ _. only_must _ _ TooShort 2 (differs (omega arith))))))
+        (three_given WrongArgument 0 1 2 p (under a numbers.nonterminals) (over a numbers.nonterminals) (under i n) (over i n) (over j n)))))
 
     -- what is left once a witness may look at its cell
     abbrev filled : Check
-    filled = must (ltb (at n t a i j) EMPTY) 14 (cell n a i j)
+    filled = must (ltb (at n t a i j) EMPTY) NoPath (cell n a i j)
 
     abbrev held : Check
-    held = must (ltb (at n ls a i j) HELD) 10 2
+    held = must (ltb (at n ls a i j) HELD) TooShort 2
 
     abbrev room : ℕ → Check
-    room words = must (leb (at n ls a i j) words) 10 2
+    room words = must (leb (at n ls a i j) words) TooShort 2
 
     -- a refusal that the checks before do not have is given exactly if they pass and what is left gives it
-    own : (words k p : ℕ) → (before ≡ refused k p → ⊥)
+    own : (words : ℕ) (k : Reason) (p : ℕ) → (before ≡ refused k p → ⊥)
         → (witness_check numbers rules edges a i j t ls words ≡ refused k p) ↔ (Ask a i j × (filled and_then held and_then room words ≡ refused k p))
     unfolding witness_check path_check room_check
     own words k p none =
@@ -255,14 +258,14 @@ module _ (numbers : Numbers) (rules edges t ls : List ℕ) where
     no_key (RightCell.leaf _ _ h _ _ _ _) l = absurd (omega arith)
     no_key (RightCell.pair _ _ _ h _ _ _ _ _ _ _ _) l = absurd (omega arith)
 
-    -- 14 exactly if all that holds and the cell is empty
-    pub witness_fourteen : (words c : ℕ) → (witness_check numbers rules edges a i j t ls words ≡ refused 14 c)
+    -- no path exactly if all that holds and the cell is empty
+    pub witness_fourteen : (words c : ℕ) → (witness_check numbers rules edges a i j t ls words ≡ refused NoPath c)
         ↔ (Ask a i j × (at n t a i j ≡ EMPTY) × (c ≡ cell n a i j))
     witness_fourteen words c =
-        let x = own words 14 c (λ e. (others _ e).0 refl) in
-        let y = and_first filled (held and_then room words) 14 c
-        (only_and _ held (room words) (only_must _ _ 10 2 (omega arith)) (λ _. only_must _ _ 10 2 (omega arith))) in
-        let z = must_given (ltb (at n t a i j) EMPTY) 14 (cell n a i j) c in (
+        let x = own words NoPath c (λ e. (others _ e).0 refl) in
+        let y = and_first filled (held and_then room words) NoPath c
+        (only_and _ held (room words) (only_must _ _ TooShort 2 (differs (omega arith))) (λ _. only_must _ _ TooShort 2 (differs (omega arith)))) in
+        let z = must_given (ltb (at n t a i j) EMPTY) NoPath (cell n a i j) c in (
           λ e.
               let h = x.0 e in
               let q = h.0 in
@@ -271,14 +274,14 @@ module _ (numbers : Numbers) (rules edges t ls : List ℕ) where
           λ h. x.1 (h.0, y.1 (z.1 (le-ltb (at n t a i j) EMPTY (omega (arith, h.1)), h.2))),
         )
 
-    -- 10 for the path exactly if all that holds, the cell is filled and there is no room for it
-    pub witness_ten : (words : ℕ) → (witness_check numbers rules edges a i j t ls words ≡ refused 10 2)
+    -- too short for the path exactly if all that holds, the cell is filled and there is no room for it
+    pub witness_ten : (words : ℕ) → (witness_check numbers rules edges a i j t ls words ≡ refused TooShort 2)
         ↔ (Ask a i j × (at n t a i j < EMPTY) × NoRoom words (at n ls a i j))
     witness_ten words =
-        let x = own words 10 2 (λ e. omega (arith, (others _ e).1 refl)) in
-        let y = and_second filled (held and_then room words) 10 2 (only_must _ _ 14 _ (omega arith)) in
-        let z = must_next (ltb (at n ls a i j) HELD) 10 2 (room words) 2 in
-        let w = must_given (leb (at n ls a i j) words) 10 2 2 in (
+        let x = own words TooShort 2 (λ e. omega (arith, (others _ e).1 refl)) in
+        let y = and_second filled (held and_then room words) TooShort 2 (only_must _ _ NoPath _ (differs (omega arith))) in
+        let z = must_next (ltb (at n ls a i j) HELD) TooShort 2 (room words) 2 in
+        let w = must_given (leb (at n ls a i j) words) TooShort 2 2 in (
           λ e.
               let h = x.0 e in
               let b = y.0 h.1 in (

@@ -1,5 +1,5 @@
 -- What the proofs of several functions cite, and the theorems on the answers.
-pub mod Edges
+pub mod Found
 pub mod Rights
 pub mod Windows
 pub mod Steps

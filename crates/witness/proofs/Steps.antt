@@ -1,22 +1,27 @@
 -- A walk reads a cell: what its two cases ask of the cell's sides, and what they give of the recorded path. Assumes nothing.
-use mathlib.Core.Path.{◌≡◌, refl, ap, ◌∙◌}
+use mathlib.Core.Path.{◌≡◌, refl, sym, ap, ◌∙◌}
 use mathlib.Core.List.{List, [], ◌∷◌, ◌++◌}
-use mathlib.Core.Logic.{◌≢◌}
 use Prim.Native.Nat.{ℕ, ◌+◌, ◌-◌, ◌*◌, ◌/◌, ◌≤◌, ◌<◌}
 use native.Mathlib.Omega.{arith}
 use lib.ListN.{length, take, drop}
+use borrow.Author.Tests.{eqb-true, eqb-false}
 use borrow.Rule.Slice.PartMut.{put_mid}
-use Rattle.key.specs.Keys.{EMPTY, height_of, rule_of, parts_of}
+use Rattle.key.specs.Keys.{EMPTY, height_of, parts_of}
 use Rattle.key.specs.declared.Parts.{Parts}
 use Rattle.meaning.specs.Net.{Net, net_of, PairRule, word}
+use Rattle.meaning.specs.Records.{rule_at}
 use Rattle.meaning.specs.Trees.{joined}
 use Rattle.meaning.specs.Lengths.{HELD, held_sum, RightCell, LowestEdge, Recorded}
 use Rattle.meaning.specs.Computed.{lowest_edge}
+use Rattle.meaning.specs.declared.Rule.TheVariants.{Label, Pair}
+use Rattle.meaning.proofs.Rules.{LabelWords, PairWords, label_words, pair_words}
 use Rattle.meaning.proofs.Joined.{joined_left, joined_right}
 use Rattle.meaning.proofs.Edges.{lowest_found, lowest_one}
 use Rattle.meaning.proofs.Recorded.{recorded_some, recorded_length}
-use Rattle.witness.specs.Walks.{at_spot, left_of, right_of, net_at, EdgeReady, Ready, ReadyPair, Written, Walked}
-use Rattle.witness.specs.declared.Spot.{Spot}
+use Rattle.witness.specs.Answers.{part}
+use Rattle.witness.specs.Walks.{at_spot, left_spot, right_spot, net_at, EdgeReady, Walkable, WordsWritten, PartWritten, SidesWritten}
+use Rattle.witness.specs.declared.spot.Spot.{Spot}
+use Rattle.witness.specs.declared.table.Held.{Held}
 use Rattle.witness.proofs.Windows.{length_part, part_past, part_whole, written_none, written_both}
 
 -- which path is recorded does not depend on the number of nonterminals
@@ -29,161 +34,185 @@ held_short : (a b : ℕ) {l : ℕ} → l ≡ held_sum a b → l < HELD → (a < 
 unfolding held_sum
 held_short a b e h = (omega arith, omega arith)
 
--- at height 1 the recorded path is one edge, the lowest that fits
-one_edge : {m : ℕ} {rules edges t : List ℕ} {s : Spot} {p : List ℕ} → height_of (at_spot t s) ≡ 1
-    → Recorded (net_at s m rules edges) t s.a s.i s.j p → p ≡ lowest_edge edges s.i (word rules (rule_of (at_spot t s)) 1) s.j ∷ []
-one_edge {rules = rules} {edges} {t} {s} h (Recorded.leaf {e = e} _ l d) =
-    let x = word rules (rule_of (at_spot t s)) 1 in
-    let d' : LowestEdge edges s.i x s.j e = rw l.label d in
-    ap (λ z. z ∷ []) (lowest_one edges s.i x s.j d' (lowest_found edges s.i x s.j d'.edge))
-one_edge h (Recorded.pair n _ _ _ _) = absurd (n h)
+module _ (held : Held) where
+  abbrev rules : List ℕ
+  rules = held.lists.rules.now
 
--- at a greater height it is the sides' paths, left then right
-record TwoPaths (m : ℕ) (rules edges t : List ℕ) (s : Spot) (k : Parts) (p : List ℕ) : Type 0 where
-  pub left : List ℕ
-  pub right : List ℕ
-  pub is : p ≡ left ++ right
-  pub first : Recorded (net_at s m rules edges) t (word rules k.rule 1) s.i k.middle left
-  pub second : Recorded (net_at s m rules edges) t (word rules k.rule 2) k.middle s.j right
+  abbrev edges : List ℕ
+  edges = held.lists.edges.now
 
-two_paths : {m : ℕ} {rules edges t : List ℕ} {s : Spot} {k : Parts} {p : List ℕ} → k ≡ parts_of (at_spot t s) → height_of (at_spot t s) ≢ 1
-    → Recorded (net_at s m rules edges) t s.a s.i s.j p → TwoPaths m rules edges t s k p
-two_paths is h (Recorded.leaf e _ _) = absurd (h e)
-two_paths is h (Recorded.pair {p = x} {q = y} _ l m a b) =
-    record { left = x; right = y; is = refl; first = rw (is, l.left, ← m) a; second = rw (is, l.right, ← m) b }
+  abbrev t : List ℕ
+  t = held.table.now
 
-module _ {rules edges t ls : List ℕ} {s : Spot} (rd : Ready rules edges t ls s) where
-  abbrev g : Net
-  g = net_at s rd.nonterminals rules edges
+  abbrev ls : List ℕ
+  ls = held.lengths.now
 
-  abbrev key : Parts
-  key = parts_of (at_spot t s)
+  module _ {s : Spot} (rd : Walkable held s) where
+    abbrev g : Net
+    g = net_at held s rd.nonterminals
 
-  here : RightCell g t ls s.a s.i s.j
-  here = rd.right.cell s.a s.i s.j rd.head rd.from rd.to
+    here : RightCell g t ls s.a s.i s.j
+    here = rd.right.cell s.a s.i s.j rd.head rd.from rd.to
 
-  path_length : {m : ℕ} {p : List ℕ} → Recorded (net_at s m rules edges) t s.a s.i s.j p → length p ≡ at_spot ls s
-  path_length way = recorded_length rd.sane rd.right (recorded_any way) rd.short
+    path_length : {m : ℕ} {p : List ℕ} → Recorded (net_at held s m) t s.a s.i s.j p → length p ≡ at_spot ls s
+    path_length way = recorded_length rd.sane rd.right (recorded_any way) rd.short
 
-  -- no more is written than there is room for
-  pub walk_fits : {from r : ℕ} {l l' : List ℕ} → Walked rules edges t s from l l' r → r ≤ length l
-  walk_fits {from} {r} {l} w =
-      let way = recorded_some rd.sane rd.right s.a s.i s.j rd.head rd.from rd.to rd.filled in
-      omega (arith, (w.walk rd.nonterminals way.0 way.1).count, length_part from (length l) way.0)
+    -- no more is written than there is room for
+    walked : {from r : ℕ} {l l' : List ℕ}
+        → ((m : ℕ) (p : List ℕ) → Recorded (net_at held s m) t s.a s.i s.j p → WordsWritten (part from (length l) p) l l' r)
+        → PartWritten held s from l l' r
+    walked {from} {r} {l} f =
+        let way = recorded_some rd.sane rd.right s.a s.i s.j rd.head rd.from rd.to rd.filled in
+        record { fits = omega (arith, (f rd.nonterminals way.0 way.1).count, length_part from (length l) way.0); walk = f }
 
-  -- the path lies before the window
-  pub walk_before : (from : ℕ) (l : List ℕ) → at_spot ls s ≤ from → Walked rules edges t s from l l 0
-  walk_before from l h = record { walk = λ m p way. rw (part_past from (length l) p (omega (arith, path_length way))) (written_none l) }
+    -- the path lies before the window
+    pub walk_before : (from : ℕ) (l : List ℕ) → at_spot ls s ≤ from → PartWritten held s from l l 0
+    walk_before from l h = walked (λ m p way. rw (part_past from (length l) p (omega (arith, path_length way))) (written_none l))
 
-  -- the window is full
-  pub walk_full : (from : ℕ) (l : List ℕ) → length l ≡ 0 → Walked rules edges t s from l l 0
-  walk_full from l h = record { walk = λ m p way. rw h (written_none l) }
+    -- the window is full
+    pub walk_full : (from : ℕ) (l : List ℕ) → length l ≡ 0 → PartWritten held s from l l 0
+    walk_full from l h = walked (λ m p way. rw h (written_none l))
 
-  -- a cell of height 1 has its edge, and its length is 1
-  leaf_here : RightCell g t ls s.a s.i s.j → key.height ≡ 1
-      → (lowest_edge edges s.i (word rules key.rule 1) s.j < length edges / 3) × (at_spot ls s ≡ 1)
-  leaf_here (RightCell.empty e a) h = absurd (omega arith)
-  leaf_here (RightCell.leaf x e _ l m d a) h = (rw l.label (lowest_found edges s.i x s.j d).edge.inside, a)
-  leaf_here (RightCell.pair B C k f u l m hk b c e a) h = absurd (omega arith)
+    module _ {k : Parts} (is : k ≡ parts_of (at_spot t s)) where
+      -- the cell's rule goes to a label x: its path is one edge, the lowest that fits
+      module _ {A x : ℕ} (said : Label A x ≡ rule_at rules k.rule) where
+        w : LabelWords (word rules k.rule 0) (word rules k.rule 1) (word rules k.rule 2) A x
+        w = label_words said
 
-  module _ {k : Parts} (is : k ≡ key) where
-    at_one : k.height ≡ 1 → key.height ≡ 1
-    at_one h = rw is at h
+        -- what such a cell is
+        record LeafCell : Type 0 where
+          pub low : height_of (at_spot t s) ≡ 1
+          pub edge : lowest_edge edges s.i x s.j < length edges / 3
+          pub long : at_spot ls s ≡ 1
 
-    pub edge_ready : k.height ≡ 1 → {path : List ℕ} → 0 < length path → EdgeReady rules edges s k.rule path
-    edge_ready h room = rw is (record { few = rd.few; edge = (leaf_here here (at_one h)).0; room = room })
+        leaf_here : RightCell g t ls s.a s.i s.j → LeafCell
+        leaf_here (RightCell.empty e a) = absurd (omega (arith, rd.filled))
+        leaf_here (RightCell.leaf y e h l m d a) =
+            let same : y ≡ x = sym l.label ∙ (rw is at w.label) in
+            record { low = h; edge = rw (← same) ((lowest_found edges s.i y s.j d).edge.inside); long = a }
+        leaf_here (RightCell.pair B C κ f u l m hk b c e a) = absurd (l.pair (eqb-true _ _ (rw is at w.mark)))
 
-    pub walk_leaf : k.height ≡ 1 → {from r : ℕ} {l l' : List ℕ} → from < at_spot ls s → 0 < length l
-        → Written (lowest_edge edges s.i (word rules k.rule 1) s.j ∷ []) l l' r → Walked rules edges t s from l l' r
-    walk_leaf h {from} {r} {l} {l'} low room w = record {
-      walk = λ m p way.
-          let z : from ≡ 0 = omega (arith, (leaf_here here (at_one h)).1) in
-          let e = one_edge (at_one h) way in
-          rw (z, e, part_whole (length l) (lowest_edge edges s.i (word rules key.rule 1) s.j ∷ []) room) (rw is at w);
+        pub edge_ready : {path : List ℕ} → 0 < length path → EdgeReady edges s x path
+        edge_ready room = record { few = rd.few; edge = (leaf_here here).edge; room = room }
+
+        one_edge : {m : ℕ} {p : List ℕ} → Recorded (net_at held s m) t s.a s.i s.j p → p ≡ lowest_edge edges s.i x s.j ∷ []
+        one_edge (Recorded.leaf {x = y} {e = e} _ l d) =
+            let same : y ≡ x = sym l.label ∙ (rw is at w.label) in
+            let d' : LowestEdge edges s.i x s.j e = rw (← same) d in
+            ap (λ z. z ∷ []) (lowest_one edges s.i x s.j d' (lowest_found edges s.i x s.j d'.edge))
+        one_edge (Recorded.pair n _ _ _ _) = absurd (n (leaf_here here).low)
+
+        pub walk_leaf : {from r : ℕ} {l l' : List ℕ} → from < at_spot ls s → 0 < length l
+            → WordsWritten (lowest_edge edges s.i x s.j ∷ []) l l' r → PartWritten held s from l l' r
+        walk_leaf {from} {r} {l} {l'} low room w = walked (λ m p way.
+            let z : from ≡ 0 = omega (arith, (leaf_here here).long) in
+            rw (z, one_edge way, part_whole (length l) (lowest_edge edges s.i x s.j ∷ []) room) w)
+
+      -- its rule goes to a pair B C: its path is the sides' paths, left then right
+      module _ {A B C : ℕ} (said : Pair A B C ≡ rule_at rules k.rule) where
+        v : PairWords (word rules k.rule 0) (word rules k.rule 1) (word rules k.rule 2) A B C
+        v = pair_words said
+
+        abbrev x : Spot
+        x = left_spot s B k.middle
+
+        abbrev y : Spot
+        y = right_spot s C k.middle
+
+        -- what such a cell is
+        record PairCell : Type 0 where
+          pub rule : PairRule rules k.rule s.a B C
+          pub middle : k.middle < s.nodes
+          pub left : at_spot t x < EMPTY
+          pub right : at_spot t y < EMPTY
+          pub above : 1 < height_of (at_spot t s)
+          pub high : height_of (at_spot t s) ≡ joined (height_of (at_spot t x)) (height_of (at_spot t y))
+          pub long : at_spot ls s ≡ held_sum (at_spot ls x) (at_spot ls y)
+
+        pair_here : RightCell g t ls s.a s.i s.j → PairCell
+        pair_here (RightCell.empty e a) = absurd (omega (arith, rd.filled))
+        pair_here (RightCell.leaf z e h l m d a) = absurd (eqb-false _ _ (rw is at v.pair) l.mark)
+        pair_here (RightCell.pair B' C' κ f u l m hk b c e a) =
+            let sameB : B' ≡ B = sym l.left ∙ (rw is at v.left) in
+            let sameC : C' ≡ C = sym l.right ∙ (rw is at v.right) in
+            let middle : κ ≡ k.middle = m ∙ rw is in
+            record {
+              rule = rw is (rw (sameB, sameC) at l);
+              middle = rw (← middle) hk;
+              left = rw (← sameB, ← middle) b;
+              right = rw (← sameC, ← middle) c;
+              above = u;
+              high = rw (← sameB, ← sameC, ← middle) e;
+              long = rw (← sameB, ← sameC, ← middle) a;
+            }
+
+        cell : PairCell
+        cell = pair_here here
+
+        pub left_ready : Walkable held x
+        left_ready = record {
+          nonterminals = rd.nonterminals;
+          sane = rd.sane;
+          few = rd.few;
+          right = rd.right;
+          head = (rd.sane.pairs _ _ _ _ cell.rule).left;
+          from = rd.from;
+          to = cell.middle;
+          filled = cell.left;
+          short = (held_short _ _ cell.long rd.short).0;
+        }
+
+        pub right_ready : Walkable held y
+        right_ready = record {
+          nonterminals = rd.nonterminals;
+          sane = rd.sane;
+          few = rd.few;
+          right = rd.right;
+          head = (rd.sane.pairs _ _ _ _ cell.rule).right;
+          from = cell.middle;
+          to = rd.to;
+          filled = cell.right;
+          short = (held_short _ _ cell.long rd.short).1;
+        }
+
+        pub sides_fall : joined (height_of (at_spot t x)) (height_of (at_spot t y)) * 2 < height_of (at_spot t s) * 2 + 1
+        sides_fall = omega (arith, cell.high)
+
+        -- the recorded path is the sides' paths
+        record TwoPaths (m : ℕ) (p : List ℕ) : Type 0 where
+          pub left : List ℕ
+          pub right : List ℕ
+          pub both : p ≡ left ++ right
+          pub first : Recorded (net_at held x m) t B s.i k.middle left
+          pub second : Recorded (net_at held y m) t C k.middle s.j right
+
+        two_paths : {m : ℕ} {p : List ℕ} → Recorded (net_at held s m) t s.a s.i s.j p → TwoPaths m p
+        two_paths (Recorded.leaf h _ _) = absurd (omega (arith, cell.above))
+        two_paths (Recorded.pair {B = B'} {C = C'} {k = κ} {p = q} {q = r} _ l m a b) =
+            let sameB : B' ≡ B = sym l.left ∙ (rw is at v.left) in
+            let sameC : C' ≡ C = sym l.right ∙ (rw is at v.right) in
+            let middle : κ ≡ k.middle = m ∙ rw is in
+            record { left = q; right = r; both = refl; first = rw (← sameB, ← middle) a; second = rw (← sameC, ← middle) b }
+
+        pub walk_pair : {from r : ℕ} {l l' : List ℕ} → SidesWritten held x y from l l' r → PartWritten held s from l l' r
+        walk_pair {from} {r} {l} {l'} w = walked (λ m p way.
+            let two = two_paths way in
+            rw two.both (w.walk m two.left two.right two.first two.second))
+
+  -- the two sides, one after the other
+  module _ {x y : Spot} (rx : Walkable held x) (ry : Walkable held y) where
+    pub left_falls : height_of (at_spot t x) * 2 + 1 < joined (height_of (at_spot t x)) (height_of (at_spot t y)) * 2
+    left_falls = omega (arith, joined_left (height_of (at_spot t x)) (height_of (at_spot t y)))
+
+    pub right_falls : height_of (at_spot t y) * 2 + 1 < joined (height_of (at_spot t x)) (height_of (at_spot t y)) * 2
+    right_falls = omega (arith, joined_right (height_of (at_spot t x)) (height_of (at_spot t y)))
+
+    pub walk_both : {from rest w v : ℕ} {l l₁ l₂ : List ℕ} → rest ≡ from - at_spot ls x
+        → PartWritten held x from l l₁ w → PartWritten held y rest (take (length l₁ - w) (drop w l₁)) l₂ v → w + v ≤ length l
+        → SidesWritten held x y from l (put_mid w (length l₁ - w) l₁ l₂) (w + v)
+    walk_both {from} {rest} {w} {v} {l} {l₁} {l₂} er a b f = record {
+      fits = f;
+      walk = λ m p q first second.
+          let e : rest ≡ from - length p = er ∙ rw (path_length rx first) in
+          written_both from p q l l₁ l₂ w v (a.walk m p first) (rw e at (b.walk m q second));
     }
-
-    pub pair_ready : k.height ≢ 1 → ReadyPair rules edges t ls s k
-    pair_ready h = record { ready = rd; key = is; high = h }
-
--- what a cell of greater height is
-record PairCell (rules t ls : List ℕ) (s : Spot) (k : Parts) : Type 0 where
-  pub rule : PairRule rules k.rule s.a (word rules k.rule 1) (word rules k.rule 2)
-  pub middle : k.middle < s.nodes
-  pub left : at_spot t (left_of rules s k) < EMPTY
-  pub right : at_spot t (right_of rules s k) < EMPTY
-  pub high : k.height ≡ joined (height_of (at_spot t (left_of rules s k))) (height_of (at_spot t (right_of rules s k)))
-  pub long : at_spot ls s ≡ held_sum (at_spot ls (left_of rules s k)) (at_spot ls (right_of rules s k))
-
-module _ {rules edges t ls : List ℕ} {s : Spot} {k : Parts} (rp : ReadyPair rules edges t ls s k) where
-  rd : Ready rules edges t ls s
-  rd = rp.ready
-
-  key_high : height_of (at_spot t s) ≢ 1
-  key_high = rw rp.key at rp.high
-
-  pair_here : RightCell (net_at s rd.nonterminals rules edges) t ls s.a s.i s.j → PairCell rules t ls s (parts_of (at_spot t s))
-  pair_here (RightCell.empty e a) = absurd (omega (arith, rd.filled))
-  pair_here (RightCell.leaf x e h l m d a) = absurd (key_high h)
-  pair_here (RightCell.pair B C κ f u l m hk b c e a) = record {
-    rule = record { inside = l.inside; head = l.head; left = refl; right = refl; pair = l.pair };
-    middle = rw (← m) hk;
-    left = rw (l.left, ← m) b;
-    right = rw (l.right, ← m) c;
-    high = rw (l.left, l.right, ← m) e;
-    long = rw (l.left, l.right, ← m) a;
-  }
-
-  cell : PairCell rules t ls s k
-  cell = rw rp.key (pair_here (here rd))
-
-  pub left_ready : Ready rules edges t ls (left_of rules s k)
-  left_ready = record {
-    nonterminals = rd.nonterminals;
-    sane = rd.sane;
-    few = rd.few;
-    right = rd.right;
-    head = (rd.sane.pairs _ _ _ _ cell.rule).left;
-    from = rd.from;
-    to = cell.middle;
-    filled = cell.left;
-    short = (held_short _ _ cell.long rd.short).0;
-  }
-
-  pub right_ready : Ready rules edges t ls (right_of rules s k)
-  right_ready = record {
-    nonterminals = rd.nonterminals;
-    sane = rd.sane;
-    few = rd.few;
-    right = rd.right;
-    head = (rd.sane.pairs _ _ _ _ cell.rule).right;
-    from = cell.middle;
-    to = rd.to;
-    filled = cell.right;
-    short = (held_short _ _ cell.long rd.short).1;
-  }
-
-  pub left_falls : {h : ℕ} → k.height * 2 ≡ h → height_of (at_spot t (left_of rules s k)) * 2 + 1 < h
-  left_falls e = omega (arith, cell.high, joined_left (height_of (at_spot t (left_of rules s k))) (height_of (at_spot t (right_of rules s k))))
-
-  pub right_falls : {h : ℕ} → k.height * 2 ≡ h → height_of (at_spot t (right_of rules s k)) * 2 + 1 < h
-  right_falls e = omega (arith, cell.high, joined_right (height_of (at_spot t (left_of rules s k))) (height_of (at_spot t (right_of rules s k))))
-
-  pub left_fits : {x : Spot} {from w : ℕ} {l l₁ : List ℕ} → x ≡ left_of rules s k → Walked rules edges t x from l l₁ w → w ≤ length l
-  left_fits e a = walk_fits left_ready (rw e at a)
-
-  -- the two sides' walks are the cell's
-  pub walk_both : {x y : Spot} {from rest w v : ℕ} {l l₁ l₂ : List ℕ} → x ≡ left_of rules s k → y ≡ right_of rules s k → rest ≡ from - at_spot ls x
-      → Walked rules edges t x from l l₁ w → Walked rules edges t y rest (take (length l₁ - w) (drop w l₁)) l₂ v
-      → Walked rules edges t s from l (put_mid w (length l₁ - w) l₁ l₂) (w + v)
-  walk_both {x} {y} {from} {rest} {w} {v} {l} {l₁} {l₂} ex ey er a b = record {
-    walk = λ m p way.
-        let two = two_paths rp.key key_high way in
-        let e : rest ≡ from - length two.left = er ∙ rw (ex, path_length left_ready two.first) in
-        rw two.is (written_both from two.left two.right l l₁ l₂ w v
-        ((rw ex at a).walk m two.left two.first)
-        (rw e at ((rw ey at b).walk m two.right two.second)));
-  }
-
-  pub both_fit : {x y : Spot} {from rest w v : ℕ} {l l₁ l₂ : List ℕ} → x ≡ left_of rules s k → y ≡ right_of rules s k → rest ≡ from - at_spot ls x
-      → Walked rules edges t x from l l₁ w → Walked rules edges t y rest (take (length l₁ - w) (drop w l₁)) l₂ v → w + v ≤ length l
-  both_fit ex ey er a b = walk_fits rd (walk_both ex ey er a b)

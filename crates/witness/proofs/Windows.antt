@@ -9,7 +9,7 @@ use borrow.Rule.Slice.PartMut.{put_mid}
 use Rattle.words.specs.Tab.{over}
 use Rattle.words.proofs.Tab.{over-append, length_over, take-over, drop-over}
 use Rattle.witness.specs.Answers.{part}
-use Rattle.witness.specs.Walks.{Written}
+use Rattle.witness.specs.Walks.{WordsWritten}
 
 sub-suc : (n m : ℕ) → suc n - suc m ≡ n - m
 sub-suc n m = omega arith
@@ -50,7 +50,7 @@ part_past from n p h = rw (drop_of_length-le p h) (take-nil n)
 pub part_whole : (n : ℕ) (p : List ℕ) → length p ≤ n → part 0 n p ≡ p
 part_whole n p h = take_all n p h
 
-pub written_none : (l : List ℕ) → Written [] l l 0
+pub written_none : (l : List ℕ) → WordsWritten [] l l 0
 unfolding over
 written_none l = record { count = refl; words = refl }
 
@@ -78,15 +78,15 @@ module _ (from : ℕ) (x y l : List ℕ) where
   hx : length X ≤ length l
   hx = length_part from (length l) x
 
-  both : (l₂ : List ℕ) (v : ℕ) → Written (part (from - length x) (length (drop (length X) l)) y) (drop (length X) l) l₂ v
-      → Written (part from (length l) (x ++ y)) l (put_mid (length X) (length (over X l) - length X) (over X l) l₂) (length X + v)
+  both : (l₂ : List ℕ) (v : ℕ) → WordsWritten (part (from - length x) (length (drop (length X) l)) y) (drop (length X) l) l₂ v
+      → WordsWritten (part from (length l) (x ++ y)) l (put_mid (length X) (length (over X l) - length X) (over X l) l₂) (length X + v)
   both l₂ v b =
       let Y = part (from - length x) (length (drop (length X) l)) y in
       let e : part from (length l) (x ++ y) ≡ X ++ Y = part_both from (length l) x y ∙ rw (length-drop (length X) l) in
       record { count = rw (e, length-append, b.count); words = rw (e, b.words) (put_both X Y l hx) }
 
-  pub written_both : (l₁ l₂ : List ℕ) (w v : ℕ) → Written X l l₁ w
-      → Written (part (from - length x) (length (take (length l₁ - w) (drop w l₁))) y) (take (length l₁ - w) (drop w l₁)) l₂ v
-      → Written (part from (length l) (x ++ y)) l (put_mid w (length l₁ - w) l₁ l₂) (w + v)
+  pub written_both : (l₁ l₂ : List ℕ) (w v : ℕ) → WordsWritten X l l₁ w
+      → WordsWritten (part (from - length x) (length (take (length l₁ - w) (drop w l₁))) y) (take (length l₁ - w) (drop w l₁)) l₂ v
+      → WordsWritten (part from (length l) (x ++ y)) l (put_mid w (length l₁ - w) l₁ l₂) (w + v)
   written_both l₁ l₂ w v a b =
       rw (a.words, a.count) (both l₂ v (rw (a.words, a.count, left_free X y l hx) at b))

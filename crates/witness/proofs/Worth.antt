@@ -6,9 +6,10 @@ use Prim.Native.Nat.{ℕ, ◌≤◌, ◌<◌}
 use native.Mathlib.Omega.{arith}
 use lib.ListN.{length}
 use Rattle.key.specs.Keys.{EMPTY, height_of}
-use Rattle.words.specs.declared.Check.TheVariants.{Good}
-use Rattle.words.specs.Refusals.{refused}
+use Rattle.std.specs.Prelude.{Ok}
+use Rattle.words.specs.Refusals.{refused, Good}
 use Rattle.words.specs.Tab.{over}
+use Rattle.words.specs.declared.Reason.TheVariants.{TooShort}
 use Rattle.meaning.specs.Trees.{Reach}
 use Rattle.meaning.specs.Table.{at}
 use Rattle.meaning.specs.Final.{FinalTable}
@@ -19,8 +20,7 @@ use Rattle.numbers.specs.declared.Numbers.{Numbers}
 use Rattle.lists.specs.Lists.{net, lists_check}
 use Rattle.lists.proofs.Right.{accepted, sane}
 use Rattle.witness.specs.Answers.{check_answer, witness_check, part, Answered, Windowed, Witnessed}
-use Rattle.witness.specs.Walks.{Written}
-use Rattle.witness.specs.declared.WitnessAnswer.TheVariants.{Wrote}
+use Rattle.witness.specs.Walks.{WordsWritten}
 use Rattle.witness.proofs.Writes.{Recording, window_sane}
 use Rattle.witness.proofs.Exact.{Ask, NoRoom, room_or_not, check_good, witness_good, witness_ten}
 
@@ -29,7 +29,7 @@ module _ (numbers : Numbers) (rules edges t ls : List ℕ) (a i j : ℕ) where
   n = numbers.nodes
 
   -- an accepted witness is a real path from i to j whose word has a derivation tree from A of the recorded height;
-  -- "its length is the recorded one", and "at least as long as its height"
+  -- its length is the recorded one, and at least its height
   pub record Worth (entry exit : List ℕ) (r : ℕ) : Type 0 where
     pub path : List ℕ
     pub words : exit ≡ over path entry
@@ -38,7 +38,7 @@ module _ (numbers : Numbers) (rules edges t ls : List ℕ) (a i j : ℕ) where
     pub long : r ≡ at n ls a i j
     pub tall : height_of (at n t a i j) ≤ r
 
-  pub witness_worth : {entry exit : List ℕ} {r : ℕ} → Witnessed numbers rules edges a i j t ls entry exit (Wrote r) → Worth entry exit r
+  pub witness_worth : {entry exit : List ℕ} {r : ℕ} → Witnessed numbers rules edges a i j t ls entry exit (Ok r) → Worth entry exit r
   witness_worth {entry} (Answered.wrote p good way count words) =
       let h = (witness_good numbers rules edges t ls a i j (length entry)).0 good in
       let ok = sane numbers rules edges (accepted numbers rules edges h.0.lists) in
@@ -52,8 +52,8 @@ module _ (numbers : Numbers) (rules edges t ls : List ℕ) (a i j : ℕ) where
       }
 
   -- all windows of a cell are parts of its one recorded path
-  pub window_part : (x : Recording numbers rules edges t ls a i j) (from : ℕ) {entry exit : List ℕ} {r : ℕ} → Windowed numbers rules edges a i j t ls from entry exit (Wrote r)
-      → Written (part from (length entry) x.path) entry exit r
+  pub window_part : (x : Recording numbers rules edges t ls a i j) (from : ℕ) {entry exit : List ℕ} {r : ℕ} → Windowed numbers rules edges a i j t ls from entry exit (Ok r)
+      → WordsWritten (part from (length entry) x.path) entry exit r
   window_part x from (Answered.wrote p good way count words) =
       rw (recorded_one (window_sane numbers rules edges t ls a i j good) x.recorded way) (record { count = count; words = words })
 
@@ -72,7 +72,7 @@ module _ (numbers : Numbers) (rules edges t ls : List ℕ) (a i j : ℕ) where
       ask = record { lists = lists; head = head; from = from; to = to; right = right }
 
       pub run_witness : (words : ℕ) → (witness_check numbers rules edges a i j t ls words ≡ Good)
-          ⊎ ((witness_check numbers rules edges a i j t ls words ≡ refused 10 2) × NoRoom words (at n ls a i j))
+          ⊎ ((witness_check numbers rules edges a i j t ls words ≡ refused TooShort 2) × NoRoom words (at n ls a i j))
       run_witness words =
           ⊎_elim
           (λ h. inr ((witness_ten numbers rules edges t ls a i j words).1 (ask, filled, h), h))

@@ -1,12 +1,15 @@
 -- From an accepted window or witness to what its walk asks, and from what the walk writes to the answer. Assumes nothing.
-use mathlib.Core.Path.{◌≡◌, ◌∙◌}
+use mathlib.Core.Path.{◌≡◌, refl, ap, ◌∙◌}
 use mathlib.Core.List.{List}
 use Prim.Native.Nat.{ℕ, ◌<◌}
 use native.Mathlib.Omega.{arith}
 use lib.ListN.{length}
 use Rattle.key.specs.Keys.{EMPTY}
-use Rattle.words.specs.declared.Check.TheVariants.{Good}
-use Rattle.words.proofs.Refusals.{and_next}
+use Rattle.std.specs.Prelude.{Ok, Err}
+use Rattle.words.specs.declared.Refusal.{Refusal}
+use Rattle.words.specs.Tab.{over}
+use Rattle.words.proofs.Refusals.{and_next, and_stop}
+use Rattle.words.specs.Refusals.{Good}
 use Rattle.meaning.specs.Net.{Sane}
 use Rattle.meaning.specs.Table.{at}
 use Rattle.meaning.specs.Lengths.{HELD, Recorded}
@@ -17,9 +20,9 @@ use Rattle.numbers.specs.declared.Numbers.{Numbers}
 use Rattle.numbers.proofs.Right.{room_good}
 use Rattle.lists.proofs.Right.{RightLists, accepted, sane}
 use Rattle.witness.specs.Answers.{window_check, witness_check, part, Answered, Windowed, Witnessed}
-use Rattle.witness.specs.Walks.{Asked, Ready, Written, Walked}
-use Rattle.witness.specs.declared.Spot.{Spot}
-use Rattle.witness.specs.declared.WitnessAnswer.TheVariants.{Wrote}
+use Rattle.witness.specs.Walks.{Asked, Walkable, PartWritten}
+use Rattle.witness.specs.declared.spot.Spot.{Spot}
+use Rattle.witness.specs.declared.table.Held.{Held}
 use Rattle.witness.proofs.Accepts.{sizes}
 use Rattle.witness.proofs.Exact.{Ask, window_good}
 use Rattle.witness.proofs.Windows.{part_whole}
@@ -27,9 +30,6 @@ use Rattle.witness.proofs.Windows.{part_whole}
 module _ (numbers : Numbers) (rules edges t ls : List ℕ) (a i j : ℕ) where
   abbrev n : ℕ
   n = numbers.nodes
-
-  abbrev spot : Spot
-  spot = record { nodes = n; a = a; i = i; j = j }
 
   -- the recorded path of a cell: it is there, and its length is the recorded one
   pub record Recording : Type 0 where
@@ -50,38 +50,70 @@ module _ (numbers : Numbers) (rules edges t ls : List ℕ) (a i j : ℕ) where
     pub window_asked : Asked numbers a i j
     window_asked = record { sizes = sizes numbers rules edges h.0.lists; head = h.0.head; from = h.0.from; to = h.0.to }
 
-    pub window_ready : Ready rules edges t ls spot
-    window_ready =
-        record {
-          nonterminals = numbers.nonterminals;
-          sane = window_sane;
-          few = ok.many_edges;
-          right = h.0.right;
-          head = h.0.head;
-          from = h.0.from;
-          to = h.0.to;
-          filled = h.1;
-          short = h.2;
-        }
-
     pub window_path : Recording
     window_path =
         let way = recorded_some window_sane h.0.right a i j h.0.head h.0.from h.0.to h.1 in
         record { path = way.0; recorded = way.1; long = recorded_length window_sane h.0.right way.1 h.2 }
 
-    module _ {s : Spot} (is : s ≡ spot) {from r : ℕ} {l l' : List ℕ} (w : Walked rules edges t s from l l' r) where
-      written : Written (part from (length l) window_path.path) l l' r
-      written = (rw is at w).walk numbers.nonterminals window_path.path window_path.recorded
+  -- a window from 0 with room for the whole path holds it
+  pub whole_wrote : {r : ℕ} {l l' : List ℕ} → room_check 2 (at n ls a i j) (length l) ≡ Good
+      → Windowed numbers rules edges a i j t ls 0 l l' (Ok r) → Witnessed numbers rules edges a i j t ls l l' (Ok r)
+  unfolding witness_check
+  whole_wrote {r} {l} {l'} roomy (Answered.wrote p good way count words) =
+      let h = (window_good numbers rules edges t ls a i j).0 good in
+      let long : length p ≡ at n ls a i j = recorded_length (window_sane good) h.0.right way h.2 in
+      let e : part 0 (length l) p ≡ p = part_whole (length l) p (omega (arith, long, (room_good _ _ _).0 roomy)) in
+      Answered.wrote p (and_next good ∙ roomy) way (count ∙ ap length e) (words ∙ ap (λ q. over q l) e)
 
-      pub window_wrote : Windowed numbers rules edges a i j t ls from l l' (Wrote r)
-      window_wrote = Answered.wrote window_path.path good window_path.recorded written.count written.words
+  -- and without that room nothing is written
+  pub whole_refused : {e : Refusal} {l : List ℕ} → window_check numbers rules edges a i j t ls ≡ Good → room_check 2 (at n ls a i j) (length l) ≡ Err e
+      → Witnessed numbers rules edges a i j t ls l l (Err e)
+  unfolding witness_check
+  whole_refused good short = Answered.refused (and_next good ∙ short) refl
 
-    -- a window from 0 with room for the whole path holds it
-    pub witness_wrote : {s : Spot} {r : ℕ} {l l' : List ℕ} → s ≡ spot → room_check 2 (at n ls a i j) (length l) ≡ Good
-        → Walked rules edges t s 0 l l' r → Witnessed numbers rules edges a i j t ls l l' (Wrote r)
-    unfolding witness_check
-    witness_wrote {s} {r} {l} {l'} is roomy w =
-        let x = window_path in
-        let e : part 0 (length l) x.path ≡ x.path = part_whole (length l) x.path (omega (arith, x.long, (room_good _ _ _).0 roomy)) in
-        let all : Written x.path l l' r = rw e at (written is w) in
-        Answered.wrote x.path (and_next good ∙ roomy) x.recorded all.count all.words
+  -- what is refused writes nothing
+  pub window_refused : (from : ℕ) {e : Refusal} {l : List ℕ} → window_check numbers rules edges a i j t ls ≡ Err e
+      → Windowed numbers rules edges a i j t ls from l l (Err e)
+  window_refused from e = Answered.refused e refl
+
+  pub witness_refused : {e : Refusal} {l : List ℕ} → window_check numbers rules edges a i j t ls ≡ Err e → Witnessed numbers rules edges a i j t ls l l (Err e)
+  unfolding witness_check
+  witness_refused e = Answered.refused (and_stop _ e) refl
+
+-- a cell of a table as it is held
+module _ (held : Held) (s : Spot) where
+  abbrev rules : List ℕ
+  rules = held.lists.rules.now
+
+  abbrev edges : List ℕ
+  edges = held.lists.edges.now
+
+  abbrev t : List ℕ
+  t = held.table.now
+
+  abbrev ls : List ℕ
+  ls = held.lengths.now
+
+  module _ (nodes : s.nodes ≡ held.lists.numbers.nodes) (good : window_check held.lists.numbers rules edges s.a s.i s.j t ls ≡ Good) where
+    w : Ask held.lists.numbers rules edges t ls s.a s.i s.j × (at held.lists.numbers.nodes t s.a s.i s.j < EMPTY) × (at held.lists.numbers.nodes ls s.a s.i s.j < HELD)
+    w = (window_good held.lists.numbers rules edges t ls s.a s.i s.j).0 good
+
+    pub window_ready : Walkable held s
+    window_ready = record {
+      nonterminals = held.lists.numbers.nonterminals;
+      sane = rw nodes (window_sane held.lists.numbers rules edges t ls s.a s.i s.j good);
+      few = (accepted held.lists.numbers rules edges w.0.lists).many_edges;
+      right = rw nodes w.0.right;
+      head = w.0.head;
+      from = rw nodes w.0.from;
+      to = rw nodes w.0.to;
+      filled = rw nodes w.1;
+      short = rw nodes w.2;
+    }
+
+    pub window_wrote : {from r : ℕ} {l l' : List ℕ} → PartWritten held s from l l' r
+        → Windowed held.lists.numbers rules edges s.a s.i s.j t ls from l l' (Ok r)
+    window_wrote p =
+        let x = window_path held.lists.numbers rules edges t ls s.a s.i s.j good in
+        let y = p.walk held.lists.numbers.nonterminals x.path (rw nodes x.recorded) in
+        Answered.wrote x.path good x.recorded y.count y.words

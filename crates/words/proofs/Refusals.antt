@@ -6,22 +6,32 @@ use Prim.Native.Nat.{ℕ, zero, suc, ◌+◌, ◌<◌}
 use native.Mathlib.Nat.{not-suc-le-zero, le_of_suc-le-suc, eq-or-lt_of_le}
 use native.Mathlib.Numerals.{add-one}
 use native.Mathlib.Omega.{arith}
-use Rattle.words.specs.Refusals.{refused, must, ◌and_then◌, scan}
+use Rattle.std.specs.Prelude.{Result, Ok, Err}
+use Rattle.std.specs.Result.{IsErrAnd}
+use Rattle.std.proofs.lemmas.Result.{err_from_is_err_and}
+use Rattle.words.specs.Refusals.{number_of, Check, Good, refused, must, ◌and_then◌, scan}
+use Rattle.words.specs.declared.Reason.{Reason}
 use Rattle.words.specs.declared.Refusal.{Refusal}
-use Rattle.words.specs.declared.Check.{Check}
-use Rattle.words.specs.declared.Check.TheVariants.{Good, Bad}
 
 -- ---- two answers that are equal say the same
 
-pub good_bad : {r : Refusal} → Good ≡ Bad r → ⊥
+pub good_bad : {r : Refusal} → Good ≡ Err r → ⊥
 good_bad {r} e = let z : ◌≡◌ {A = ℕ} 0 1 = cc in omega arith
 
-pub bad_same : {r s : Refusal} → Bad r ≡ Bad s → r ≡ s
+pub bad_same : {r s : Refusal} → ◌≡◌ {A = Check} (Err r) (Err s) → r ≡ s
 bad_same {r} {s} e = cc
 
-module _ {k p l q : ℕ} (e : refused k p ≡ refused l q) where
+module _ {k l : Reason} {p q : ℕ} (e : refused k p ≡ refused l q) where
   pub same_place : p ≡ q
   same_place = ap (λ (r : Refusal). r.place) (bad_same e)
+
+-- reasons of other numbers are other reasons
+pub differs : {k l : Reason} → number_of k ≢ number_of l → k ≢ l
+differs h e = h (ap number_of e)
+
+-- what a `?` hands on is the refusal that it met
+pub handed_on : {T : Type 0} {e : Refusal} (r : Result T Refusal) → IsErrAnd r (λ y. y ≡ e) → r ≡ Err e
+handed_on {e = e} r h = let p = err_from_is_err_and r h in p.1 ∙ ap Err p.2
 
 -- ---- two tests
 
@@ -31,12 +41,12 @@ both false b = (λ e. absurd (false≢true e), λ h. h.0)
 
 -- ---- one check
 
-pub must_good : (b : Bool) (k p : ℕ) → (must b k p ≡ Good) ↔ (b ≡ true)
+pub must_good : (b : Bool) (k : Reason) (p : ℕ) → (must b k p ≡ Good) ↔ (b ≡ true)
 unfolding must
 must_good true k p = (λ e. refl, λ e. refl)
 must_good false k p = (λ e. absurd (good_bad (sym e)), λ t. absurd (false≢true t))
 
-pub must_bad : (b : Bool) (k p : ℕ) (r : Refusal) → (must b k p ≡ Bad r) ↔ ((b ≡ false) × (refused k p ≡ Bad r))
+pub must_bad : (b : Bool) (k : Reason) (p : ℕ) (r : Refusal) → (must b k p ≡ Err r) ↔ ((b ≡ false) × (refused k p ≡ Err r))
 unfolding must
 must_bad true k p r = (λ e. absurd (good_bad e), λ g. absurd (true≢false g.0))
 must_bad false k p r = (λ e. (refl, e), λ g. g.1)
@@ -47,24 +57,24 @@ pub and_next : {x y : Check} → x ≡ Good → x and_then y ≡ y
 unfolding ◌and_then◌
 and_next e = rw e
 
-pub and_stop : {x : Check} (y : Check) {r : Refusal} → x ≡ Bad r → x and_then y ≡ Bad r
+pub and_stop : {x : Check} (y : Check) {r : Refusal} → x ≡ Err r → x and_then y ≡ Err r
 unfolding ◌and_then◌
 and_stop y e = rw e
 
 pub and_assoc : (x y z : Check) → (x and_then y) and_then z ≡ x and_then y and_then z
 unfolding ◌and_then◌
-and_assoc Good y z = refl
-and_assoc (Bad r) y z = refl
+and_assoc (Ok _) y z = refl
+and_assoc (Err r) y z = refl
 
 pub and_good : (x y : Check) → (x and_then y ≡ Good) ↔ ((x ≡ Good) × (y ≡ Good))
 unfolding ◌and_then◌
-and_good Good y = (λ e. (refl, e), λ g. g.1)
-and_good (Bad r) y = (λ e. absurd (good_bad (sym e)), λ g. absurd (good_bad (sym g.0)))
+and_good (Ok tt) y = (λ e. (refl, e), λ g. g.1)
+and_good (Err r) y = (λ e. absurd (good_bad (sym e)), λ g. absurd (good_bad (sym g.0)))
 
-pub and_bad : (x y : Check) (r : Refusal) → (x and_then y ≡ Bad r) ↔ ((x ≡ Bad r) ⊎ ((x ≡ Good) × (y ≡ Bad r)))
+pub and_bad : (x y : Check) (r : Refusal) → (x and_then y ≡ Err r) ↔ ((x ≡ Err r) ⊎ ((x ≡ Good) × (y ≡ Err r)))
 unfolding ◌and_then◌
-and_bad Good y r = (λ e. inr (refl, e), ⊎_elim (λ e. absurd (good_bad e)) (λ g. g.1))
-and_bad (Bad s) y r = (λ e. inl e, ⊎_elim (λ e. e) (λ g. absurd (good_bad (sym g.0))))
+and_bad (Ok tt) y r = (λ e. inr (refl, e), ⊎_elim (λ e. absurd (good_bad e)) (λ g. g.1))
+and_bad (Err s) y r = (λ e. inl e, ⊎_elim (λ e. e) (λ g. absurd (good_bad (sym g.0))))
 
 -- ---- the checks c 0, .., c (n - 1)
 
@@ -84,9 +94,9 @@ pub record Lowest (c : ℕ → Check) (n : ℕ) (r : Refusal) : Type 0 where
   pub index : ℕ
   pub below : index < n
   pub good : (i : ℕ) → i < index → c i ≡ Good
-  pub bad : c index ≡ Bad r
+  pub bad : c index ≡ Err r
 
-lowest : (c : ℕ → Check) (n : ℕ) (r : Refusal) → scan c n ≡ Bad r → Lowest c n r
+lowest : (c : ℕ → Check) (n : ℕ) (r : Refusal) → scan c n ≡ Err r → Lowest c n r
 unfolding scan
 lowest c zero r e = absurd (good_bad e)
 lowest c (suc n) r e =
@@ -101,24 +111,24 @@ unfolding scan
 scan_more c n e g = rw add-one (and_next e ∙ g)
 
 -- the first refusal stays
-pub scan_bad : (c : ℕ → Check) (n i : ℕ) {r : Refusal} → i < n → scan c i ≡ Good → c i ≡ Bad r → scan c n ≡ Bad r
+pub scan_bad : (c : ℕ → Check) (n i : ℕ) {r : Refusal} → i < n → scan c i ≡ Good → c i ≡ Err r → scan c n ≡ Err r
 unfolding scan
 scan_bad c zero i h e b = absurd (not-suc-le-zero h)
 scan_bad c (suc n) i h e b =
     ⊎_elim (λ q. rw (← q) (and_next e ∙ b)) (λ l. and_stop _ (scan_bad c n i l e b)) (eq-or-lt_of_le (le_of_suc-le-suc h))
 
 -- a refusal exactly if it is the lowest one
-pub scan_lowest : (c : ℕ → Check) (n : ℕ) (r : Refusal) → (scan c n ≡ Bad r) ↔ Lowest c n r
+pub scan_lowest : (c : ℕ → Check) (n : ℕ) (r : Refusal) → (scan c n ≡ Err r) ↔ Lowest c n r
 scan_lowest c n r =
     (lowest c n r, λ l. scan_bad c n l.index l.below ((scan_good c l.index).1 l.good) l.bad)
 
 -- ---- what every refusal of a check meets
 
 abbrev pub Only : (Refusal → Type 0) → Check → Type 0
-Only P c = (r : Refusal) → c ≡ Bad r → P r
+Only P c = (r : Refusal) → c ≡ Err r → P r
 
 module _ (P : Refusal → Type 0) where
-  pub only_must : (b : Bool) (k p : ℕ) → P (record { number = k; place = p }) → Only P (must b k p)
+  pub only_must : (b : Bool) (k : Reason) (p : ℕ) → P (record { reason = k; place = p }) → Only P (must b k p)
   only_must b k p h r e = subst P (bad_same ((must_bad b k p r).0 e).1) h
 
   pub only_and : (x y : Check) → Only P x → (x ≡ Good → Only P y) → Only P (x and_then y)
@@ -130,21 +140,21 @@ module _ (P : Refusal → Type 0) where
 -- ---- 'given exactly when'
 
 -- one check refuses at its place exactly if its test fails
-pub must_given : (b : Bool) (k p q : ℕ) → (must b k p ≡ refused k q) ↔ ((b ≡ false) × (q ≡ p))
+pub must_given : (b : Bool) (k : Reason) (p q : ℕ) → (must b k p ≡ refused k q) ↔ ((b ≡ false) × (q ≡ p))
 must_given b k p q = (
   λ e. let m = (must_bad b k p _).0 e in (m.0, sym (same_place m.1)),
   λ h. (must_bad b k p _).1 (h.0, rw h.1),
 )
 
 -- a check before others of its number refuses at its own place where its test fails; otherwise they decide
-pub must_next : (b : Bool) (k q : ℕ) (y : Check) (p : ℕ)
+pub must_next : (b : Bool) (k : Reason) (q : ℕ) (y : Check) (p : ℕ)
     → (must b k q and_then y ≡ refused k p) ↔ (((b ≡ false) × (p ≡ q)) ⊎ ((b ≡ true) × (y ≡ refused k p)))
 unfolding must ◌and_then◌
 must_next true k q y p = (λ e. inr (refl, e), ⊎_elim (λ h. absurd (true≢false h.0)) (λ h. h.1))
 must_next false k q y p = (λ e. inl (refl, sym (same_place e)), ⊎_elim (λ h. rw h.1) (λ h. absurd (false≢true h.0)))
 
 -- three checks of one number refuse at the place of the first whose test fails
-pub three_given : {a b c : Bool} {A A' B B' C' : Type 0} (k x y z p : ℕ)
+pub three_given : {a b c : Bool} {A A' B B' C' : Type 0} (k : Reason) (x y z p : ℕ)
     → ((a ≡ true) ↔ A) → ((a ≡ false) ↔ A') → ((b ≡ true) ↔ B) → ((b ≡ false) ↔ B') → ((c ≡ false) ↔ C')
     → (must a k x and_then must b k y and_then must c k z ≡ refused k p)
     ↔ ((A' × (p ≡ x)) ⊎ (A × B' × (p ≡ y)) ⊎ (A × B × C' × (p ≡ z)))
@@ -167,8 +177,8 @@ three_given {a} {b} {c} k x y z p tA fA tB fB fC =
     )
 
 -- where only the first of two checks has number k, and where only the second has it
-module _ (x y : Check) (k p : ℕ) where
-  pub and_first : Only (λ r. r.number ≢ k) y → (x and_then y ≡ refused k p) ↔ (x ≡ refused k p)
+module _ (x y : Check) (k : Reason) (p : ℕ) where
+  pub and_first : Only (λ r. r.reason ≢ k) y → (x and_then y ≡ refused k p) ↔ (x ≡ refused k p)
   and_first none =
       (λ e. ⊎_elim (λ b. b) (λ z. absurd (none _ z.1 refl)) ((and_bad x y _).0 e), λ b. and_stop y b)
 
@@ -176,7 +186,7 @@ module _ (x y : Check) (k p : ℕ) where
   pub and_past : (x ≡ refused k p → ⊥) → (x and_then y ≡ refused k p) ↔ ((x ≡ Good) × (y ≡ refused k p))
   and_past none = (λ e. ⊎_elim (λ b. absurd (none b)) (λ z. z) ((and_bad x y _).0 e), λ z. and_next z.0 ∙ z.1)
 
-  pub and_second : Only (λ r. r.number ≢ k) x → (x and_then y ≡ refused k p) ↔ ((x ≡ Good) × (y ≡ refused k p))
+  pub and_second : Only (λ r. r.reason ≢ k) x → (x and_then y ≡ refused k p) ↔ ((x ≡ Good) × (y ≡ refused k p))
   and_second none = and_past (λ b. none _ b refl)
 
 -- p is the lowest of the indices below n that are not right
@@ -185,13 +195,13 @@ pub record LowestWrong (right : ℕ → Bool) (n p : ℕ) : Type 0 where
   pub wrong : right p ≡ false
   pub rest : (i : ℕ) → i < p → right i ≡ true
 
-pub scan_must : (right : ℕ → Bool) (k n p : ℕ) → (scan (λ i. must (right i) k i) n ≡ refused k p) ↔ LowestWrong right n p
+pub scan_must : (right : ℕ → Bool) (k : Reason) (n p : ℕ) → (scan (λ i. must (right i) k i) n ≡ refused k p) ↔ LowestWrong right n p
 scan_must right k n p = (λ e. given (lowest c n _ e), λ w. scan_bad c n p w.below ((scan_good c p).1 (λ i h. (must_good _ k i).1 (w.rest i h))) ((must_bad _ k p _).1 (w.wrong, refl)))
   where
     c : ℕ → Check
     c i = must (right i) k i
 
-    given : Lowest c n (record { number = k; place = p }) → LowestWrong right n p
+    given : Lowest c n (record { reason = k; place = p }) → LowestWrong right n p
     given l =
         let b = (must_bad (right l.index) k l.index _).0 l.bad in
         let e = same_place b.1 in
@@ -200,3 +210,6 @@ scan_must right k n p = (λ e. given (lowest c n _ e), λ w. scan_bad c n p w.be
           wrong = rw e at b.0;
           rest = λ i h. (must_good _ k i).0 (l.good i (omega arith));
         }
+
+-- what a chain of `?` over checks needs
+pub ruleset refusing = (and_next, and_stop, handed_on)

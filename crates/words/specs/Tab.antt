@@ -6,6 +6,6 @@ unfoldable pub tab : (ℕ → ℕ) → ℕ → List ℕ
 tab f zero = []
 tab f (suc n) = tab f n ++ (f n ∷ [])
 
--- "Words of a list past those written keep their values": w, then the rest of l as it was
+-- the list l after the words w were written from its start on: w, then the rest of l, which keeps its values
 unfoldable pub over : List ℕ → List ℕ → List ℕ
 over w l = w ++ drop (length w) l

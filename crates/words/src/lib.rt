@@ -1,127 +1,79 @@
-// Numbers in lists of words: little-endian words in bytes at every size, and the answer of a check.
-// Every function is total: a byte past the end reads as 0 and is not written. Where p itself is past the end a function
-// returns at once, so that the position of the high half does not wrap. Each promise is an equation, which settles the
-// answer, or every byte of the lent slice.
+// Numbers in lists of words: little-endian words in bytes at every size, and the refusals that checks give.
+// Every function is total, and its promise settles its answer.
 #![tactic(auto)]
 
-ghost use Rattle.std.specs.Prelude.{◌≡◌};
-ghost use Rattle.words.specs.Bytes.{le_at, put_le};
-ghost use Rattle.words.specs.Refusals.{must as must_of, ◌and_then◌};
+ghost use Rattle.std.specs.Prelude.{◌≡◌, ◌<◌, ℕ, Some};
+ghost use Rattle.words.specs.Refusals.{must as must_of, number_of, text_of, ScanIs};
 
-// Document 01: "Each refusal is a number and a place."
-#[derive(Clone, Copy)]
+mod little_endian;
+
+pub use crate::little_endian::{Word, read, write};
+use std::fmt;
+
+// Why a call is refused, by the number that C and the report tell.
+#[derive(Clone, Copy, Debug, PartialEq, Eq)]
+pub enum Reason {
+    WrongSize = 1,
+    WrongSum = 2,
+    WrongOrder = 3,
+    WrongNumber = 4,
+    WrongCount = 5,
+    WrongEntry = 6,
+    WrongRule = 7,
+    WrongEdge = 8,
+    UnknownKind = 9,
+    TooShort = 10,
+    WrongCell = 11,
+    TooHigh = 12,
+    TooLarge = 13,
+    NoPath = 14,
+    WrongArgument = 15,
+}
+
+impl Reason {
+    pub fn number(self) -> u32
+        ensures { result ≡ number_of self }
+    {
+        self as u32
+    }
+}
+
+// A reason, and the place that it speaks of.
+#[derive(Clone, Copy, Debug, PartialEq, Eq)]
 pub struct Refusal {
-    pub number: u32,
+    pub reason: Reason,
     pub place: usize,
 }
 
-// Good, or the first refusal in document 01's order.
-#[derive(Clone, Copy)]
-pub enum Check {
-    Good,
-    Bad(Refusal),
+impl fmt::Display for Refusal {
+    ghost output = { λ r. Some (text_of r) };
+
+    fn fmt<W: fmt::Write>(&self, f: &mut fmt::Formatter<W>) -> fmt::Result {
+        let number = self.reason.number();
+        let place = self.place;
+        write!(f, "refused {number} at {place}")
+    }
 }
 
-// Refusal `number` at `place`, unless `ok` holds.
+// A refusal for `reason` at `place`, unless `ok` holds.
 #[tactic(auto, unfolding(crate::specs::Refusals::must))]
-pub fn must(ok: bool, number: u32, place: usize) -> Check
-    ensures { result ≡ must_of ok number place }
+pub fn must(ok: bool, reason: Reason, place: usize) -> Result<(), Refusal>
+    ensures { result ≡ must_of ok reason place }
 {
     if ok {
-        return Check::Good;
-    }
-    Check::Bad(Refusal {
-        number: number,
-        place: place,
-    })
-}
-
-// The first check's refusal, or else the second's.
-pub fn and_then(a: Check, b: Check) -> Check
-    ensures { result ≡ (a and_then b) }
-{
-    match a {
-        Check::Good => b,
-        Check::Bad(_) => a,
+        Ok(())
+    } else {
+        Err(Refusal { reason, place })
     }
 }
 
-fn byte(s: &[u8], p: usize) -> u8
-    ensures { result ≡ le_at 1 s.now p }
+// The checks of 0, 1, .., n - 1 in this order: of several refusals, the one at the lowest index.
+pub fn scan<F: Fn(usize) -> Result<(), Refusal>>(n: usize, check: F) -> Result<(), Refusal>
+    requires { (k : ℕ) → k < n → F.pre check k }
+    ensures { ScanIs (λ k r. F.post check k r) n result }
 {
-    if p < s.len() {
-        return s[p];
+    for k in 0..n {
+        check(k)?;
     }
-    0
-}
-
-pub fn read16(s: &[u8], p: usize) -> u16
-    ensures { result ≡ le_at 2 s.now p }
-{
-    if s.len() <= p {
-        return 0;
-    }
-    let low = byte(s, p);
-    let high = byte(s, p + 1);
-    low as u16 + high as u16 * 256
-}
-
-pub fn read32(s: &[u8], p: usize) -> u32
-    ensures { result ≡ le_at 4 s.now p }
-{
-    if s.len() <= p {
-        return 0;
-    }
-    let low = read16(s, p);
-    let high = read16(s, p + 2);
-    low as u32 + high as u32 * 65536
-}
-
-pub fn read64(s: &[u8], p: usize) -> u64
-    ensures { result ≡ le_at 8 s.now p }
-{
-    if s.len() <= p {
-        return 0;
-    }
-    let low = read32(s, p);
-    let high = read32(s, p + 4);
-    low as u64 + high as u64 * 4294967296
-}
-
-fn put(s: &mut [u8], p: usize, x: u8)
-    ensures { s.new ≡ put_le 1 s.old p x }
-{
-    if p < s.len() {
-        s[p] = x;
-    }
-}
-
-pub fn write16(s: &mut [u8], p: usize, x: u16)
-    ensures { s.new ≡ put_le 2 s.old p x }
-{
-    if s.len() <= p {
-        return;
-    }
-    put(s, p, (x % 256) as u8);
-    put(s, p + 1, (x / 256) as u8);
-}
-
-pub fn write32(s: &mut [u8], p: usize, x: u32)
-    ensures { s.new ≡ put_le 4 s.old p x }
-{
-    if s.len() <= p {
-        return;
-    }
-    write16(s, p, (x % 65536) as u16);
-    write16(s, p + 2, (x / 65536) as u16);
-}
-
-pub fn write64(s: &mut [u8], p: usize, x: u64)
-    ensures { s.new ≡ put_le 8 s.old p x }
-{
-    if s.len() <= p {
-        return;
-    }
-    write32(s, p, (x % 4294967296) as u32);
-    write32(s, p + 4, (x / 4294967296) as u32);
+    Ok(())
 }

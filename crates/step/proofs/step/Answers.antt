@@ -1,43 +1,38 @@
--- `step::step` meets its contract. Assumes nothing.
+-- `step::step` meets its contract: what a check refuses leaves the table, and after the last one the cells' part is the rest.
+-- Assumes nothing.
 use mathlib.Core.Path.{◌≡◌, sym, ◌∙◌}
 use native.Mathlib.Omega.{arith}
-use lib.ListN.{length}
-use Rattle.words.specs.declared.Check.TheVariants.{Good}
-use Rattle.start.proofs.Order.{Ready}
-use Rattle.step.specs.Calls.{call_check}
-use Rattle.step.proofs.Order.{Arguments, call_good, step_stop, step_next}
-use Rattle.step.proofs.step.Goals.{In_default}
+use Rattle.words.proofs.Refusals.{refusing, and_stop, handed_on}
+use Rattle.words.specs.Refusals.{Good}
+use Rattle.lists.specs.Lists.{lists_check}
+use Rattle.step.specs.Calls.{ask_check}
+use Rattle.step.proofs.Order.{step_refused, step_next}
+use Rattle.step.proofs.step.Goals.{In_ok-lists}
 use Rattle.step.proofs.step.Goals as goal
 
-pub returns-in-Bad : goal.returns-in-Bad
-returns-in-Bad c = sym (step_stop _ _ _ _ _ _ _ _ _ (sym c.step_check-c.ensures ∙ c.in-Bad.is))
+-- the lists are accepted here
+passed : (c : In_ok-lists) → let a = c.args in lists_check a.numbers a.rules.now a.edges.now ≡ Good
+passed c = let n = c.in_ok-lists.ensures.ok in rw (← n.0, ← n.1.0, ← n.1.1) c.in_ok-lists.lists.passed
 
--- the lists, the arguments and the table's length are accepted here
-good : (c : In_default) →
-    let a = c.args in
-    call_check a.numbers a.rules.now a.edges.now (length a.table.now) a.rule a.i a.k a.j ≡ Good
-good c = sym c.step_check-c.ensures ∙ c.in_default.is
+pub returns-in_err-lists : goal.returns-in_err-lists
+unfolding ask_check
+returns-in_err-lists c = step_refused _ _ _ _ _ _ _ _ _ (handed_on _ c.from_residual.ensures.1) (and_stop _ c.in_err-lists.ensures.err)
 
-ready : (c : In_default) →
-    let a = c.args in
-    Ready a.numbers a.rules.now a.edges.now (length a.table.now)
-    × Arguments a.numbers.nodes a.rules.now a.rule a.i a.k a.j
-ready c = (call_good _ _ _ _ _ _ _ _).0 (good c)
+pub returns-in_err-argument_check : goal.returns-in_err-argument_check
+unfolding ask_check
+returns-in_err-argument_check c =
+    let p = passed (goal.at.returns-in_err-argument_check c).In_ok-lists in
+    step_refused _ _ _ _ _ _ _ _ _ (handed_on _ c.from_residual-in_err-argument_check.ensures.1) (grind (arith, refusing, p))
 
-pub overflow_cast-numbers : goal.overflow_cast-numbers
-overflow_cast-numbers c = omega (arith, (ready (goal.at.overflow_cast-numbers c).In_default).0.lists.nodes.high)
-
-pub overflow_cast-rule : goal.overflow_cast-rule
-overflow_cast-rule c = let p = ready (goal.at.overflow_cast-rule c).In_default in omega (arith, p.0.lists.many_rules, p.1.rule)
-
-pub overflow_cast-i : goal.overflow_cast-i
-overflow_cast-i c = let p = ready (goal.at.overflow_cast-i c).In_default in omega (arith, p.0.lists.nodes.high, p.1.from)
-
-pub overflow_cast-k : goal.overflow_cast-k
-overflow_cast-k c = let p = ready (goal.at.overflow_cast-k c).In_default in omega (arith, p.0.lists.nodes.high, p.1.middle)
-
-pub overflow_cast-j : goal.overflow_cast-j
-overflow_cast-j c = let p = ready (goal.at.overflow_cast-j c).In_default in omega (arith, p.0.lists.nodes.high, p.1.to)
+pub returns-in_err-room : goal.returns-in_err-room
+unfolding ask_check
+returns-in_err-room c =
+    let p = passed (goal.at.returns-in_err-room c).In_ok-lists in
+    step_refused _ _ _ _ _ _ _ _ _ (handed_on _ c.from_residual-in_err-room.ensures.1) (grind (arith, refusing, p))
 
 pub returns : goal.returns
-returns c = c.at_cells.ensures ∙ sym (step_next _ _ _ _ _ _ _ _ (good (goal.at.returns c).In_default))
+unfolding ask_check
+returns c =
+    let p = passed (goal.at.returns c).In_ok-lists in
+    let n = c.in_ok-lists.ensures.ok in
+    c.at_cells.ensures _ (c.cells_for.ensures ∙ rw (n.0, n.1.0)) ∙ sym (step_next _ _ _ _ _ _ _ _ (grind (arith, refusing, p)))

@@ -1,32 +1,37 @@
--- `text::closed` meets its contract: the run refuses nothing. Assumes nothing.
-use Rattle.text.proofs.Reports.{run_good, run_never, run_ready, run_exact}
+-- `text::closed` meets its contract: the run refuses nothing, and the table check accepts what it leaves. Assumes nothing.
+use mathlib.Core.Path.{refl, sym, ◌∙◌}
+use Rattle.words.proofs.Refusals.{good_bad}
+use Rattle.closure.specs.Runs.{Completed}
+use Rattle.text.specs.Report.{net_in}
+use Rattle.text.proofs.Runs.{run_good, run_never, run_accepted, run_query}
+use Rattle.text.proofs.closed.Goals.{In_ok-depth}
 use Rattle.text.proofs.closed.Goals as goal
 
-pub whole-requires : goal.whole-requires
-whole-requires c =
+pub returns-in_err-depth : goal.returns-in_err-depth
+returns-in_err-depth c =
     let p = c.requires in
-    let k = rw (c.numbers_in.ensures, run_good p.small p.exact, c.in-Depth.is) at c.run-answer.ensures in
-    record { ready = run_ready p.small p.exact k; exact = run_exact p.small p.exact k; depth_value = k.deep }
+    absurd (run_never p.small p.exact (rw (p.numbers, run_good p.small p.exact, c.in_err-depth.was) at c.run.ensures))
 
-pub shape_of-text : goal.shape_of-text
-shape_of-text c = c.whole.auto.text
-
-pub shape_of-table-in-Depth : goal.shape_of-table-in-Depth
-shape_of-table-in-Depth c = c.run-answer.auto.table
-
-pub shape_of-lengths-in-Depth : goal.shape_of-lengths-in-Depth
-shape_of-lengths-in-Depth c = c.run-answer.auto.lengths
-
-pub returns-in-Depth : goal.returns-in-Depth
-returns-in-Depth c = c.whole.ensures
-
-pub shape_of-table-in-Refused : goal.shape_of-table-in-Refused
-shape_of-table-in-Refused c = c.run-answer.auto.table
-
-pub shape_of-lengths-in-Refused : goal.shape_of-lengths-in-Refused
-shape_of-lengths-in-Refused c = c.run-answer.auto.lengths
-
-pub returns-in-Refused : goal.returns-in-Refused
-returns-in-Refused c =
+-- what the run has left
+left : (c : In_ok-depth) → Completed (net_in c.args.header c.args.lists.rules.now c.args.lists.edges.now) c.args.table.now c.args.lengths.now c.run.new.table c.run.new.lengths c.in_ok-depth.depth
+left c =
     let p = c.requires in
-    absurd (run_never p.small p.exact (rw (c.numbers_in.ensures, run_good p.small p.exact, c.in-Refused.is) at c.run-answer.ensures))
+    rw (p.numbers, run_good p.small p.exact, c.in_ok-depth.was) at c.run.ensures
+
+pub returns-in_err-checked : goal.returns-in_err-checked
+returns-in_err-checked c =
+    let p = c.requires in
+    let good = run_accepted p.small p.exact (left (goal.at.returns-in_err-checked c).In_ok-depth) in
+    absurd (good_bad (sym good ∙ (rw p.numbers at c.in_err-checked.ensures.err)))
+
+pub whole-requires-clause-query_of : goal.whole-requires-clause-query_of
+whole-requires-clause-query_of c =
+    let p = c.requires in
+    let t = c.in_ok-checked.ensures.ok in
+    run_query p.small p.exact (left (goal.at.whole-requires-clause-query_of c).In_ok-depth) _ refl
+    (rw t.0 p.numbers) (rw t.0 refl) (rw t.0 refl) (rw t.1.0 refl) (rw t.1.1 refl)
+
+pub whole-requires-clause-depth_value : goal.whole-requires-clause-depth_value
+whole-requires-clause-depth_value c =
+    let t = c.in_ok-checked.ensures.ok in
+    rw t.1.0 (left (goal.at.whole-requires-clause-depth_value c).In_ok-depth).deep

@@ -1,25 +1,20 @@
 -- `deck::blocks::first_of` meets its contract. Assumes nothing.
-use mathlib.Core.Path.{sym}
-use borrow.Author.Count.{below_none, below_more}
-use borrow.Author.Tests.{le-leb, lt-leb}
-use native.Mathlib.Nat.{not-le_of_lt}
-use Rattle.words.proofs.First.{first_at}
-use Rattle.deck.specs.Blocks.{first_of}
-use borrow.Author.Rules.{rules}
+use mathlib.Core.Path.{ap, ◌∙◌}
+use native.Mathlib.Omega.{arith}
+use Rattle.deck.specs.declared.reader.Reader.{Reader}
+use Rattle.deck.proofs.Readers.{lower_none, lower_more, lower_here, lower_all}
 use Rattle.deck.proofs.blocks.first_of.Goals as goal
 
-pub loop-b-init : goal.loop-b-init
-loop-b-init c = (search rules, below_none _)
+pub loop-block-init : goal.loop-block-init
+loop-block-init c = let o = c.open-block-items.ensures in
+    let e = c.into_iter-block-iterator.ensures.into_iter_gives in
+    lower_none _ _ (ap (λ (r : Reader). r.deck.now) e ∙ o.deck) (ap (λ (r : Reader). r.next) e ∙ o.next)
 
-pub loop-b-preserved : goal.loop-b-preserved
-loop-b-preserved c = (search rules, below_more _ _ c.loop-b.invariant.1 (rw (← c.type_of.ensures) (lt-leb _ _ c.if-t-type_of.false)))
+pub returns-then-from-type_byte : goal.returns-then-from-type_byte
+returns-then-from-type_byte c = lower_here _ _ c.loop-block.invariant c.in-Some.ensures.steps (omega arith)
 
-pub returns-after-loop-b : goal.returns-after-loop-b
-unfolding first_of
-returns-after-loop-b c = let l = c.loop-b in
-    sym (first_at _ _ l.b l.invariant.0 l.invariant.1 (λ h. absurd (not-le_of_lt h c.loop-b-test.false)))
+pub loop-block-preserved : goal.loop-block-preserved
+loop-block-preserved c = lower_more _ _ c.loop-block.invariant c.in-Some.ensures.steps (omega arith)
 
-pub returns-then-t-type_of : goal.returns-then-t-type_of
-unfolding first_of
-returns-then-t-type_of c = let l = c.loop-b in
-    sym (first_at _ _ l.b l.invariant.0 l.invariant.1 (λ h. rw (← c.type_of.ensures) (le-leb _ _ c.if-t-type_of.true)))
+pub returns : goal.returns
+returns c = lower_all _ _ c.loop-block.invariant c.in-None.ensures.steps

@@ -1,20 +1,21 @@
 -- `deck::blocks::total` meets its contract. Assumes nothing.
-use mathlib.Core.Path.{◌∙◌, ap}
-use native.Mathlib.Nat.{le_antisymm}
+use mathlib.Core.Path.{sym, ap, ◌∙◌}
 use native.Mathlib.Omega.{arith}
-use Rattle.deck.specs.Blocks.{total}
-use Rattle.deck.proofs.Sums.{total_more}
-use borrow.Author.Rules.{rules}
+use Rattle.deck.specs.declared.reader.Reader.{Reader}
+use Rattle.deck.proofs.Readers.{counted_none, counted_used, counted_other, counted_all}
 use Rattle.deck.proofs.blocks.total.Goals as goal
 
-pub loop-b-init : goal.loop-b-init
-unfolding total
-loop-b-init c = search rules
+pub loop-block-init : goal.loop-block-init
+loop-block-init c = let o = c.open-block-items.ensures in
+    let e = c.into_iter-block-iterator.ensures.into_iter_gives in
+    counted_none _ _ (ap (λ (r : Reader). r.deck.now) e ∙ o.deck) (ap (λ (r : Reader). r.next) e ∙ o.next)
 
-pub loop-b-preserved : goal.loop-b-preserved
-loop-b-preserved c = let a = c.args in
-    omega (arith, total_more a.deck.now a.t c.loop-b.b)
+pub loop-block-preserved-then-type_byte-from : goal.loop-block-preserved-then-type_byte-from
+loop-block-preserved-then-type_byte-from c = let u = c.used-sum.ensures in
+    counted_used _ _ c.loop-block.invariant c.in-Some.ensures.steps _ u.byte u.value (omega arith)
+
+pub loop-block-preserved : goal.loop-block-preserved
+loop-block-preserved c = counted_other _ _ c.loop-block.invariant c.in-Some.ensures.steps (λ e. c.if-type_byte-from.false (c.type_byte.ensures ∙ e ∙ sym c.from.ensures))
 
 pub returns : goal.returns
-returns c = let a = c.args in
-    c.loop-b.invariant.1.0 ∙ ap (total a.deck.now a.t) (le_antisymm c.loop-b.invariant.0 c.loop-b-test.false)
+returns c = counted_all _ _ c.loop-block.invariant c.in-None.ensures.steps

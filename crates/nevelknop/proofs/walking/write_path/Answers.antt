@@ -1,43 +1,34 @@
 -- `nevelknop::walking::write_path` meets its contract: each turn writes one window more. Assumes nothing.
-use Prim.Native.Nat.{◌+◌, ◌<◌}
+use mathlib.Core.Path.{sym, ◌∙◌}
+use Prim.Native.Nat.{◌+◌, ◌*◌, ◌≤◌}
 use native.Mathlib.Omega.{arith}
-use Rattle.lists.specs.Lists.{net}
-use Rattle.witness.proofs.Writes.{window_path}
-use Rattle.nevelknop.proofs.Windows.{Writing, writing_none, writing_more, writing_all, some_more, path_long}
-use Rattle.nevelknop.proofs.walking.write_path.Goals.{After-slice_known-in-loop-from-1}
+use Rattle.std.proofs.lemmas.Grind.{div_ceil_times}
+use Rattle.words.proofs.Refusals.{handed_on}
+use Rattle.nevelknop.proofs.Told.{room_refused, path_told, room_bytes}
+use Rattle.nevelknop.proofs.Windows.{packed_none, packed_more, packed_all, path_long}
 use Rattle.nevelknop.proofs.walking.write_path.Goals as goal
 
-pub loop-from-init : goal.loop-from-init
-loop-from-init c = writing_none _ _
+pub returns-in_err-room : goal.returns-in_err-room
+returns-in_err-room c =
+    rw (handed_on _ c.from_residual.ensures.1)
+    (room_refused _ _ _ _ _ _ _ _ _ c.args.found.given c.length-many.ensures (sym c.room.ensures ∙ c.in_err-room.was))
 
-pub write_window-from-requires : goal.write_window-from-requires
-write_window-from-requires c = record { lengths_value = c.requires.lengths_value; from_in_bounds = omega arith }
+pub loop-w-init : goal.loop-w-init
+loop-w-init c = packed_none c.args.path.now
 
--- the path is as long as its length says, and a window is some of it
-more : (c : After-slice_known-in-loop-from-1)
-    → let a = c.args in
-    let r = c.write_window-from in
-    (0 < r.result) × Writing (net a.numbers a.rules.now a.edges.now) a.table.now a.a a.i a.j a.many a.path.now r.new.path (c.loop-from.from + r.result)
-more c =
-    let r = c.write_window-from in
-    let long = path_long _ _ _ _ _ _ _ _ c.requires.lengths_value c.requires.many_value.0 in
-    let x = window_path _ _ _ _ _ _ _ _ c.requires.lengths_value in (
-      some_more long c.requires.many_value.1 c.loop-from.invariant r.ensures x.path x.recorded c.loop-from-test.true,
-      writing_more long c.requires.many_value.1 c.loop-from.invariant r.ensures x.path x.recorded r.auto.path,
-    )
+pub write_window-requires : goal.write_window-requires
+write_window-requires c =
+    omega (arith, room_bytes _ _ (sym c.room.ensures ∙ c.in_ok-room.was), div_ceil_times c.length-many.result 16384 (omega arith), c.loop-w.invariant.same)
 
-pub overflow_add-from : goal.overflow_add-from
-overflow_add-from c = omega (arith, (more (goal.at.overflow_add-from c).After-slice_known-in-loop-from-1).1.within, c.ranges.many)
-
-pub loop-from-smaller : goal.loop-from-smaller
-loop-from-smaller c = omega (arith, (more (goal.at.loop-from-smaller c).After-slice_known-in-loop-from-1).0, (more (goal.at.loop-from-smaller c).After-slice_known-in-loop-from-1).1.within)
-
-pub loop-from-preserved : goal.loop-from-preserved
-loop-from-preserved c = (more (goal.at.loop-from-preserved c).After-slice_known-in-loop-from-1).1
-
-pub shape_of-path : goal.shape_of-path
-shape_of-path c = c.loop-from.invariant.same
+pub loop-w-preserved : goal.loop-w-preserved
+loop-w-preserved c =
+    let w = c.loop-w.w in
+    let before : w * 16384 ≤ c.length-many.result = omega (arith, div_ceil_times c.length-many.result 16384 (omega arith)) in
+    packed_more (path_long _ _ _ _ _ _ _ _ c.args.found.given c.length-many.ensures) c.loop-w.invariant ((w + 1) * 16384)
+    (room_bytes _ _ (sym c.room.ensures ∙ c.in_ok-room.was)) before (omega arith) c.write_window.auto.path c.write_window.ensures
 
 pub returns : goal.returns
 returns c =
-    writing_all (path_long _ _ _ _ _ _ _ _ c.requires.lengths_value c.requires.many_value.0) c.loop-from.invariant c.loop-from-test.false
+    path_told _ _ _ _ _ _ _ _ _ c.args.found.given c.length-many.ensures (sym c.room.ensures ∙ c.in_ok-room.was)
+    (packed_all (path_long _ _ _ _ _ _ _ _ c.args.found.given c.length-many.ensures) c.loop-w.invariant
+    (omega (arith, div_ceil_times c.length-many.result 16384 (omega arith))))

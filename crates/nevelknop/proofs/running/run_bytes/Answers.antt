@@ -1,0 +1,19 @@
+-- `nevelknop::running::run_bytes` meets its contract: the lists' first refusal, or the run. Assumes nothing.
+use Rattle.words.proofs.Refusals.{handed_on}
+use Rattle.std.proofs.Common.{rules}
+use Rattle.nevelknop.proofs.Lent.{Bytes}
+use Rattle.nevelknop.proofs.Told.{run_refused, run_told}
+use Rattle.nevelknop.proofs.running.run_bytes.Goals as goal
+
+pub returns-in_err-lists : goal.returns-in_err-lists
+returns-in_err-lists c =
+    let a = c.args in
+    rw (handed_on _ c.from_residual.ensures.1) (run_refused a.given.numbers a.given.rules.now a.given.edges.now _ _ c.in_err-lists.ensures.err)
+
+pub returns : goal.returns
+returns c =
+    let a = c.args in
+    let bt : Bytes a.table.now = search rules in
+    let bl : Bytes a.lengths.now = search rules in
+    let l = c.in_ok-lists.ensures.ok in
+    run_told a.given.numbers a.given.rules.now a.given.edges.now l.1.1.1 bt bl (rw (l.0, l.1.0, l.1.1.0) at c.run_lists.ensures)

@@ -1,6 +1,0 @@
--- `nevelknop::walking::length_of` meets its contract. Assumes nothing.
-use mathlib.Core.Path.{◌∙◌}
-use Rattle.nevelknop.proofs.walking.length_of.Goals as goal
-
-pub returns : goal.returns
-returns c = c.length_at.ensures ∙ rw c.cell.ensures
