@@ -24,7 +24,7 @@ use Rattle.meaning.proofs.After.{all_each}
 use Rattle.meaning.proofs.Start.{start_high}
 use Rattle.meaning.proofs.Heights.{high_few}
 use Rattle.meaning.proofs.PassOf.{pass_of, pass_still}
-use Rattle.meaning.proofs.Demand3.{start_final}
+use Rattle.meaning.proofs.AnyOrder.{start_final}
 use Rattle.meaning.proofs.Right.{Sides, Kind, leaf, pair, final_kinds}
 use Rattle.numbers.specs.declared.Numbers.{Numbers}
 use Rattle.numbers.specs.Numbers.{cells_of, room_check}

@@ -9,7 +9,7 @@ use Rattle.words.specs.declared.Refusal.{Refusal}
 use Rattle.words.specs.Refusals.{Check, Good}
 use Rattle.words.proofs.Refusals.{and_good}
 use Rattle.meaning.specs.Net.{Net, Sane}
-use Rattle.meaning.proofs.Demand2.{final_lists}
+use Rattle.meaning.proofs.FinalTables.{final_lists}
 use Rattle.meaning.proofs.Heights.{accepted_always}
 use Rattle.meaning.proofs.Lengths.{lengths_list}
 use Rattle.meaning.proofs.Right.{final_falling}

@@ -17,7 +17,7 @@ fn height(word: u64) -> u32
     }
 }
 
-// The largest height of the first n words, 0 if no cell is filled.
+// The largest height of the first n words, 0 if no cell is filled. A count beside, as the definition has it.
 pub(crate) fn depth_of(table: &[u64], n: usize) -> u32
     requires { n ≤ length table.now }
     ensures { result ≡ depth table.now n }

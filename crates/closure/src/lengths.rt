@@ -26,7 +26,11 @@ pub(crate) struct Still<'a> {
     pub(crate) ghost linked: { Linked grammar.size grammar.rules.now table.now },
 }
 
+// Each function that writes the lengths asks that those known are right: a struct over the lent lengths would have that proved
+// again at each write, which is no plainer.
 impl<'a> Still<'a> {
+    // Words and no match on the rule, which would need an arm for the label rules that a pair cell never names. A key by its
+    // literal, which is all of `Key::from`.
     fn sides(&self, c: usize) -> Sides
         requires { c < length self.now.table.now }
         ensures { (result.left ≡ left_side self.now.grammar.size self.now.grammar.rules.now self.now.table.now c) × (result.right ≡ right_side self.now.grammar.size self.now.grammar.rules.now self.now.table.now c) }

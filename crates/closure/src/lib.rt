@@ -47,7 +47,7 @@ struct PairRule {
 
 // Fills the table with the smallest key of each cell, by passes until one moves nothing, and then the lengths. Answers the
 // depth. Refused as the lists are, then where the table, named 0, or the lengths, named 1, have too few words; a step that
-// is too high would end the run with every cell empty and every length 0.
+// is too high would end the run with every cell empty and every length 0. A public call keeps its slices and numbers.
 #[tactic(auto, using(words::proofs::Refusals::refusing, lists::proofs::Right::accepted, crate::proofs::Closing::run_refused), unfolding(crate::specs::Runs::run_check))]
 pub fn run(
     numbers: Numbers,
@@ -58,6 +58,7 @@ pub fn run(
 ) -> Result<u32, Refusal>
     ensures { RunIs (run_check numbers rules.now edges.now (length table.old) (length lengths.old)) (net numbers rules.now edges.now) table.old lengths.old table.new lengths.new result }
 {
+    // The lists are asked once: what the passes need of the answer is the invariant of Grammar.
     check(numbers, rules, edges)?;
     let size = Size {
         nodes: numbers.nodes as u16,

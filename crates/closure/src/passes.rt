@@ -51,6 +51,8 @@ fn join(
     Ok(true)
 }
 
+// Each function that writes the table asks that it is low: a struct over the lent table would have that proved again at each
+// write, which is no plainer.
 impl PairRule {
     // Its steps at i and k, where the left side is filled.
     // That was read once: a step never wins at its own left side, since it is higher.

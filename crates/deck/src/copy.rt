@@ -9,7 +9,8 @@ use crate::records::{Labels, Records};
 use numbers::room;
 use words::Refusal;
 
-// Writes what `word` gives for 0, 1, .., n - 1 into the front of a list.
+// Writes what `word` gives for 0, 1, .., n - 1 into the front of a list. A count beside: the definitions speak of the whole
+// list and a count.
 pub(crate) fn put_front<F: Fn(usize) -> u16>(list: &mut [u16], n: usize, word: F)
     requires given { (k : ℕ) → k < n → F.pre word k }
     requires room { n ≤ length list.old }

@@ -77,7 +77,7 @@ fn checked(deck: &[u8]) -> Result<Labels, Refusal>
     records.labels()
 }
 
-// Reads a deck into the fronts of the two lists; a refusal leaves both as they were.
+// Reads a deck into the fronts of the two lists; a refusal leaves both as they were. A public call keeps its slices.
 #[tactic(auto, using(words::proofs::Refusals::handed_on, crate::proofs::Handed::read_stop, crate::proofs::Handed::read_next, crate::proofs::Handed::lists_fit, crate::proofs::Handed::right_deck))]
 pub fn read(deck: &[u8], rules: &mut [u16], edges: &mut [u16]) -> Result<Header, Refusal>
     ensures value { result ≡ header_if (read_check deck.now (length rules.old) (length edges.old)) deck.now }

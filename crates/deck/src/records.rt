@@ -30,7 +30,8 @@ pub(crate) struct Records<'a> {
     pub ghost edges_few: { header.edges ≤ 4096 },
 }
 
-// The kinds of a right map, side by side: a search reads nothing else.
+// The kinds of a right map, side by side: a search reads nothing else. No heap here: an array of fixed size, as many of it as
+// the header says.
 #[derive(Clone, Copy)]
 pub(crate) struct Labels<'a> {
     pub records: Records<'a>,

@@ -18,7 +18,7 @@ use Rattle.meaning.specs.Lengths.{HELD, RightTable, Recorded}
 use Rattle.meaning.specs.Computed.{start_word, right_cell, path_of}
 use Rattle.meaning.proofs.Trees.{tree_inside}
 use Rattle.meaning.proofs.Start.{leaf_tree, leaf_low}
-use Rattle.meaning.proofs.Demand3.{still_final}
+use Rattle.meaning.proofs.AnyOrder.{still_final}
 use Rattle.meaning.proofs.PassOf.{pass_of, quiet_still}
 use Rattle.meaning.proofs.Recorded.{right_sound, recorded_some, recorded_length}
 use Rattle.meaning.proofs.Nets.{sane_lists}

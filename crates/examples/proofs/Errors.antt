@@ -15,7 +15,7 @@ use Rattle.meaning.specs.Passes.{ask_of, steps_of, changes}
 use Rattle.meaning.specs.Final.{FinalTable}
 use Rattle.meaning.specs.Lengths.{held_sum, depth, Lengths}
 use Rattle.meaning.specs.Computed.{is_edge, lowest_edge, is_pair, is_leaf, leaf_word, start_word, start_table, right_sides, right_word, right_cell}
-use Rattle.meaning.proofs.Demand2.{final_tables}
+use Rattle.meaning.proofs.FinalTables.{final_tables}
 use Rattle.meaning.proofs.Lengths.{lengths_one}
 use Rattle.meaning.proofs.Right.{final_falling, right_lengths}
 use Rattle.examples.specs.Errors.{first_tree, counted, pass_number, storing, rules, edges, loop, start, pass, final, by_first_tree, by_pass_number, by_storing}

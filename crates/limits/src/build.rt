@@ -16,7 +16,7 @@ enum Kind {
     Edge = 4,
 }
 
-// Word w of block b.
+// Word w of block b. Deck and block stay two here: a struct of a lent deck would be made anew for each block.
 pub(crate) fn put(deck: &mut [u8], b: u16, w: u16, x: u16) {
     write(
         deck,
@@ -25,13 +25,14 @@ pub(crate) fn put(deck: &mut [u8], b: u16, w: u16, x: u16) {
     );
 }
 
-// Type, records used and number of block b.
+// Type, records used and number of block b. A byte and no `Kind`: some decks have a type that there is not.
 pub(crate) fn head(deck: &mut [u8], b: u16, kind: u8, used: u8, number: u16) {
     let p = usize::from(b) * BLOCK_BYTES;
     write(deck, p, u16::from_le_bytes([kind, used]));
     write(deck, p + 2, number);
 }
 
+// The reader's own sum is not used here: it is what the decks are for.
 fn sum_of(bytes: &[u8]) -> u32
     requires { length bytes.now ≤ 508 }
 {

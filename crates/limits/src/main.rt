@@ -14,7 +14,7 @@ enum Damage {
     Nothing,
     // In a block, a word, and what it is then.
     Word(u16, u16, u16),
-    // A block's type, records used and number.
+    // A block's type, records used and number. The type is a byte and no `Kind`, as in `head`.
     Head(u16, u8, u8, u16),
     // A block's last word before its check, but not the check.
     Sum(u16),

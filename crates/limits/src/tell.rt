@@ -35,6 +35,7 @@ pub(crate) fn tell_short(deck: &[u8]) {
 }
 
 // The deck of the first n bytes, or of all there are.
+// The length comes beside, since `build` promises no bound on it.
 pub(crate) fn tell_front(name: &str, deck: &[u8], n: usize) {
     let mut rules = [0u16; 768];
     let mut edges = [0u16; 12288];

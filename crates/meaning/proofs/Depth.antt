@@ -15,7 +15,7 @@ use Rattle.meaning.specs.Table.{cell, cells, at}
 use Rattle.meaning.specs.Final.{FinalTable}
 use Rattle.meaning.specs.Lengths.{depth, Deepest}
 use Rattle.meaning.proofs.Cells.{cell_in, cell_back}
-use Rattle.meaning.proofs.Demand2.{final_filled, final_least}
+use Rattle.meaning.proofs.FinalTables.{final_filled, final_least}
 
 -- what word c brings to the depth
 abbrev height_at : List ℕ → ℕ → ℕ

@@ -19,7 +19,7 @@ use Rattle.meaning.proofs.Sums.{filled_few}
 use Rattle.meaning.proofs.Steps.{sound_le, sound_real, step_in, step_target, target_in, step_high}
 use Rattle.meaning.proofs.After.{after_sound, after_high}
 use Rattle.meaning.proofs.Passes.{within_low}
-use Rattle.meaning.proofs.Demand3.{final_sound, final_within}
+use Rattle.meaning.proofs.AnyOrder.{final_sound, final_within}
 use Rattle.meaning.proofs.Start.{start_sound, start_high}
 
 usable_empty : (n rules v : ℕ) → v ≡ EMPTY → usable n rules v ≡ true

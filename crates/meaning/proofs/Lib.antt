@@ -9,8 +9,8 @@ pub mod Steps
 pub mod After
 pub mod Passes
 pub mod Start
-pub mod Demand2
-pub mod Demand3
+pub mod FinalTables
+pub mod AnyOrder
 pub mod Depth
 pub mod Heights
 pub mod PassOf

@@ -15,7 +15,7 @@ use Rattle.meaning.specs.Final.{FinalTable}
 use Rattle.meaning.specs.Rows.{bit, row_at, Row, RowTable}
 use Rattle.meaning.proofs.Bits.{bits_same}
 use Rattle.meaning.proofs.Fronts.{fronts_same}
-use Rattle.meaning.proofs.Demand2.{final_filled}
+use Rattle.meaning.proofs.FinalTables.{final_filled}
 
 same_bit : (v w j : ℕ) {P : Type 0} → (bit v j ≡ 1) ↔ P → (bit w j ≡ 1) ↔ P → bit v j ≡ bit w j
 same_bit v w j a b = go (ℕ_discrete (bit v j) 1) (ℕ_discrete (bit w j) 1)

@@ -1,4 +1,5 @@
 // What C calls, through nevelknop_c: the run and the witness on numbers and byte slices, words packed little-endian and checked inside.
+// The C interface fixes their parameters.
 // Both take any input. The words go into local arrays: the limits of rules and edges keep these large enough for the lists,
 // and no call that is not too large needs more than 2,048 words of a table or of lengths.
 #![tactic(auto)]

@@ -8,7 +8,8 @@ use lists::Lists;
 use packing::pack;
 use words::Refusal;
 
-// The run on the words that the bytes hold, and all of them packed again. A refused run has changed no word, so no byte changes.
+// The run on the words that the bytes hold, and all of them packed again. Table and lengths stay two, as C lends them. A refused
+// run has changed no word, so no byte changes.
 fn run_lists(lists: Lists, table: &mut [u8], lengths: &mut [u8]) -> Result<u32, Refusal>
     ensures { RunBack lists.entry.numbers lists.entry.rules.now lists.entry.edges.now table.old lengths.old table.new lengths.new result }
 {

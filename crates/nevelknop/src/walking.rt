@@ -46,7 +46,7 @@ fn write_path(found: RecordedPath, path: &mut [u8]) -> Result<u32, Refusal>
     Ok(many)
 }
 
-// The witness on lists of words: every refusal comes before the first byte.
+// The witness on lists of words: every refusal comes before the first byte. Table and lengths stay two, as C lends them.
 fn witness_lists(
     lists: Lists,
     at: Arguments,

@@ -1,4 +1,5 @@
-// The C calls: each is the library's call, exported under its name. include/nevelknop.h says the same to C.
+// The C calls: each is the library's call, exported under its name. include/nevelknop.h says the same to C. The C interface
+// fixes their parameters.
 #![tactic(auto)]
 
 ghost use Rattle.nevelknop.specs.Calls.{given_numbers, RunCall, WitnessCall};

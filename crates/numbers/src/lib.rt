@@ -24,7 +24,8 @@ pub fn between(low: usize, high: usize, x: usize) -> bool
     low <= x && x <= high
 }
 
-// Whether header word `word` may be `x`; a word past the seven is 0.
+// Whether header word `word` may be `x`; a word past the seven is 0. A number and no enum: docs/STATEMENTS.md names the
+// call, and a deck's words are counted.
 pub fn in_limits(word: usize, x: usize) -> bool
     ensures { result ≡ in_limits word x }
 {
@@ -61,7 +62,8 @@ pub fn large(numbers: Numbers, edges: usize) -> Result<(), Refusal>
     must(edges <= 1024, Reason::TooLarge, 5)
 }
 
-// A lent buffer, named by `place`, of `have` words holds the `want` needed.
+// A lent buffer, named by `place`, of `have` words holds the `want` needed. A number and no enum: docs/STATEMENTS.md names
+// the call, and the refusal's place is that number.
 #[tactic(auto, unfolding(crate::specs::Numbers::room_check))]
 pub fn room(place: usize, want: usize, have: usize) -> Result<(), Refusal>
     ensures { result ≡ room_check place want have }

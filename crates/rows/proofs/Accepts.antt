@@ -16,7 +16,6 @@ use Rattle.meaning.specs.Net.{Sane}
 use Rattle.numbers.specs.declared.Numbers.{Numbers}
 use Rattle.numbers.specs.Numbers.{room_check}
 use Rattle.lists.specs.Lists.{net, lists_check}
-use Rattle.numbers.proofs.Right.{room_good}
 use Rattle.lists.specs.declared.Lists.{Lists}
 use Rattle.lists.proofs.Right.{accepted, sane}
 use Rattle.numbers.proofs.Given.{room_given}
@@ -40,9 +39,6 @@ module _ (numbers : Numbers) (rules edges : List ℕ) (have : ℕ) (e : rows_che
 
   pub rows_sane : Sane (net numbers rules edges)
   rows_sane = sane numbers rules edges (accepted numbers rules edges both.0)
-
-  pub rows_room : numbers.nonterminals * numbers.nodes ≤ have
-  rows_room = (room_good _ _ _).0 both.1
 
 module _ (numbers : Numbers) (rules edges : List ℕ) (have p : ℕ) where
   -- the lists' refusals come first, exactly as the lists give them

@@ -88,10 +88,6 @@ module _ (n : ℕ) (rules edges : List ℕ) (r : ℕ) where
             leaves = below_more _ e y.leaves (λ B z a b p q. absurd (eqb-false _ _ t (q.label ∙ sym p.label ∙ l.label)));
           })
 
-  -- all of them
-  pub edges_all : {rs rs' : List ℕ} {c : ℕ} → length edges / 3 ≤ c → Entered n rules edges (EdgesBelow c) rs rs' → Entered n rules edges (LeafBits n rules edges r) rs rs'
-  edges_all h y = record { grown = y.grown; leaves = λ e A x i j l d. y.leaves e (omega (arith, d.inside)) A x i j l d }
-
 module _ (n : ℕ) (rules edges : List ℕ) where
   pub rules_none : {rs : List ℕ} → Entered n rules edges (RulesBelow n rules edges 0) rs rs
   rules_none = record { grown = none; leaves = λ s h. absurd (omega arith) }

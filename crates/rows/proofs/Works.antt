@@ -126,6 +126,6 @@ pub round_less : (n : ℕ) {rules rs rs' : List ℕ} {P : List ℕ → Type 0} (
 round_less n {rs} {rs'} b e x low = rw (grown_length x.grown) (omega (arith, total_most rs' low (length rs), rw e at x.went))
 
 -- what the loops over rules and over rounds need
-pub ruleset rounding = (ready_grown, round_start, round_more, round_all)
+pub ruleset rounding = (ready_grown, round_start)
 
 pub ruleset closing = (none, ready_grown, grown_then, round_last, round_less)

@@ -26,14 +26,16 @@ fn enter_edge(edges: &[u16], e: usize, base: usize, label: u16, rows: &mut [u64]
     requires { EdgeFits edges.now e base rows.old }
     ensures { rows.new ≡ entered edges.now e base label rows.old }
 {
-    // By index: `word` and `EdgeWords::at` test bounds again, and all rows took 1.13 and 1.45 times the instructions.
+    // The label alone, and by index: `word` and `EdgeWords::at` at every edge test bounds again, and all rows took 1.13 and
+    // 1.45 times the instructions.
     if edges[3 * e + 1] == label {
         let edge = EdgeWords::at(edges, e);
         rows[base + edge.from as usize] |= 1 << edge.to;
     }
 }
 
-// Rule `r`, if it is a label rule, at every edge.
+// Rule `r`, if it is a label rule, at every edge. That the rows are long enough stays a clause: a struct over rows that are
+// written would have it proved again at each write, which is no plainer.
 fn enter_rule(lists: Lists, r: usize, rows: &mut [u64])
     requires rule { r < length lists.rules.now / 3 }
     requires nodes_in_bounds { lists.numbers.nonterminals * lists.numbers.nodes ≤ length rows.old }
@@ -58,6 +60,7 @@ fn enter(lists: Lists, rows: &mut [u64])
     }
 }
 
+// A loop over bits, which counts no index.
 // The union of the rows from `base` on that the bits of `chosen` choose, the lowest bit first.
 fn union(rows: &[u64], base: usize, chosen: u64) -> u64
     requires { (k : ℕ) → bit chosen k ≡ 1 → base + k < length rows.now }
@@ -65,6 +68,7 @@ fn union(rows: &[u64], base: usize, chosen: u64) -> u64
 {
     let mut row = 0;
     let mut left = chosen;
+    // Each turn takes off the lowest bit that is left; a `for` over all 64 would look at the clear ones too.
     while left != 0 {
         let k = u64::trailing_zeros(left) as usize;
         row |= rows[base + k];
@@ -111,7 +115,7 @@ fn join_rule(lists: Lists, r: usize, rows: &mut [u64]) -> bool
     }
 }
 
-// A round: every pair rule at every node; whether the rows are still changing.
+// A round: every pair rule at every node; whether the rows are still changing. `RowsReady` stays a clause, as in `enter_rule`.
 #[tactic(auto, using(crate::proofs::Works::rounding))]
 fn round(lists: Lists, rows: &mut [u64]) -> bool
     requires { RowsReady lists.numbers lists.rules.now rows.old }
@@ -144,7 +148,8 @@ fn make(lists: Lists, rows: &mut [u64])
     close(lists, rows);
 }
 
-// The rows of a grammar and a graph. Refused as the lists are, then where the rows, named 5, are too few.
+// The rows of a grammar and a graph. Refused as the lists are, then where the rows, named 5, are too few. A public call keeps
+// its slices and numbers.
 pub fn rows(numbers: Numbers, rules: &[u16], edges: &[u16], rows: &mut [u64]) -> Result<(), Refusal>
     ensures { RowsCall numbers rules.now edges.now rows.old result rows.new }
 {

@@ -98,6 +98,7 @@ pub fn begin(
 }
 
 // Fills the cells of height 1 and empties the others. Refused as the lists are, then where the table, named 0, is too short.
+// A public call keeps its slices and numbers; `check` and no `Lists`, since `begin`, which is public too, takes the parts.
 #[tactic(auto, using(words::proofs::Refusals::refusing, lists::proofs::Right::accepted, crate::proofs::Filling::start_refused, crate::proofs::Filling::start_done), unfolding(crate::specs::Calls::start_check))]
 pub fn start(
     numbers: Numbers,

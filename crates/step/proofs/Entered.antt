@@ -1,20 +1,16 @@
 -- What a candidate's word is, and what taking a key does. Assumes nothing.
 use mathlib.Core.Path.{◌≡◌}
 use mathlib.Core.List.{List}
-use mathlib.Core.Bool.{true, false, ◌&&◌, ◌||◌}
+use mathlib.Core.Bool.{true, false}
 use Prim.Native.Nat.{ℕ, ◌≤◌, ◌<◌}
 use native.Mathlib.Omega.{arith}
-use native.Mathlib.Decide.{dec_lt}
-use lib.ListN.{length, get_or, set, get_or-eq_default}
-use lib.Dec.{eqb, leb, ltb}
+use lib.ListN.{get_or, set}
 use borrow.Author.Tests.{lt-ltb, le-ltb}
 use Rattle.std.specs.Prelude.{Ok, Err}
 use Rattle.words.specs.Refusals.{must}
 use Rattle.words.specs.declared.Reason.TheVariants.{TooHigh}
-use Rattle.key.specs.declared.Parts.{Parts}
-use Rattle.key.specs.Keys.{EMPTY, HIGHEST, key, height_of, parts_of}
+use Rattle.key.specs.Keys.{EMPTY, HIGHEST, key, height_of}
 use Rattle.meaning.specs.Trees.{joined}
-use Rattle.meaning.specs.Steps.{usable}
 use Rattle.meaning.proofs.Cells.{candidate_filled, candidate_left, candidate_right}
 use Rattle.start.proofs.Entered.{enter_keeps, enter_wins}
 use Rattle.step.specs.Entering.{offered, taken}
@@ -44,14 +40,6 @@ module _ (x y k r : ℕ) where
 -- ---- a key taken
 
 module _ (t : List ℕ) (c κ : ℕ) where
-  -- a word above the key is one of the table's
-  pub key_inside : κ < get_or t c 0 → c < length t
-  key_inside l = go (dec_lt c (length t))
-    where
-      go : Dec (c < length t) → c < length t
-      go (yes h) = h
-      go (no h) = absurd (omega (arith, get_or-eq_default t 0 {n = c} (omega arith)))
-
   pub taken_no : get_or t c 0 ≤ κ → taken t c κ ≡ (Ok false, t)
   unfolding taken must
   taken_no l = rw (le-ltb κ _ l, enter_keeps t c κ l)
@@ -63,10 +51,3 @@ module _ (t : List ℕ) (c κ : ℕ) where
   pub taken_yes : κ < get_or t c 0 → height_of κ ≤ HIGHEST → taken t c κ ≡ (Ok true, set t c κ)
   unfolding taken must
   taken_yes l h = rw (lt-ltb κ _ l, le-ltb HIGHEST _ h, enter_wins t c κ l)
-
--- ---- the test of a word, by the parts of its key
-
-pub usable_parts : (n rules v : ℕ) (p : Parts) → p ≡ parts_of v
-    → usable n rules v ≡ (eqb v EMPTY || (leb 1 p.height && leb p.height HIGHEST && ltb p.middle n && ltb p.rule rules))
-unfolding usable
-usable_parts n rules v p e = rw e

@@ -20,7 +20,7 @@ use Rattle.meaning.specs.Passes.{ask_of}
 use Rattle.meaning.proofs.After.{after_all_lem, after-length}
 use Rattle.meaning.proofs.Steps.{step_keeps, wins_false}
 use Rattle.meaning.proofs.Start.{start_sound, start_leaves}
-use Rattle.meaning.proofs.Demand3.{sound_always, passes_final, start_final}
+use Rattle.meaning.proofs.AnyOrder.{sound_always, passes_final, start_final}
 use Rattle.meaning.proofs.Heights.{accepted_always}
 use Rattle.meaning.proofs.PassOf.{ask_is, ask_possible}
 use Rattle.numbers.specs.declared.Numbers.{Numbers}

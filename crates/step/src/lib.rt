@@ -149,7 +149,8 @@ fn at_cells(nodes: u16, rules: usize, table: &mut [u64], step: StepCells) -> Res
     )
 }
 
-// One step of a pair rule from i over k to j: whether it has changed the table. Refused as the lists are, then for an
+// One step of a pair rule from i over k to j: whether it has changed the table. Eight parameters, since a public call keeps
+// its slices and numbers. Refused as the lists are, then for an
 // argument, for a table, named 0, that is too short, for a cell, and for a key that would win and be too high.
 #[tactic(auto, using(lists::proofs::Right::accepted))]
 pub fn step(

@@ -18,7 +18,7 @@ use words::Refusal;
 
 mod out;
 
-// The lines of the filled cells.
+// The lines of the filled cells. A program over the public calls, which take slices and numbers.
 fn lines(
     out: &mut Out,
     table: &[u64],

@@ -7,6 +7,7 @@ use std::fmt::Write;
 
 const CAPACITY: usize = 65536;
 
+// No heap here: a buffer of fixed size and how much of it is full.
 pub(crate) struct Out {
     bytes: [u8; CAPACITY],
     len: usize,

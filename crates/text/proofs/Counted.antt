@@ -6,7 +6,7 @@ use native.Mathlib.Omega.{arith}
 use Rattle.meaning.specs.Net.{Net, Sane}
 use Rattle.meaning.specs.Trees.{Reached}
 use Rattle.meaning.specs.Final.{FinalTable}
-use Rattle.meaning.proofs.Demand2.{final_filled}
+use Rattle.meaning.proofs.FinalTables.{final_filled}
 use Rattle.meaning.proofs.Rows.{row_back}
 use Rattle.meaning.proofs.Recorded.{recorded_one}
 use Rattle.text.specs.Text.{path_text}

@@ -13,7 +13,7 @@ use Rattle.meaning.specs.Net.{Net, Sane}
 use Rattle.meaning.specs.Trees.{Reached}
 use Rattle.meaning.specs.Table.{cells}
 use Rattle.meaning.specs.Lengths.{depth, Deepest}
-use Rattle.meaning.proofs.Demand2.{final_lists}
+use Rattle.meaning.proofs.FinalTables.{final_lists}
 use Rattle.meaning.proofs.Depth.{final_depth}
 use Rattle.meaning.proofs.Right.{final_falling}
 use Rattle.meaning.proofs.Lengths.{lengths_list}

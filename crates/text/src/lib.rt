@@ -36,6 +36,7 @@ fn whole(pen: &mut Pen, header: Header, query: Query, depth: u32)
     pen.closing(pairs, u64::from(depth));
 }
 
+// Table and lengths stay two: the run writes both.
 // Of lists that pass the engine's checks the run refuses nothing, and the table check accepts what it has made.
 fn closed(
     pen: &mut Pen,

@@ -32,6 +32,7 @@ impl Query<'_> {
         cell(self.nodes(), self.head as u16, i, j)
     }
 
+    // `key` and `length` look up as the table check's own do, which are private to witness and take its `Spot`.
     pub(crate) fn key(self, i: u16, j: u16) -> Key
         ensures { result.word ≡ key_at self.entry.checked self.entry.head i j }
     {

@@ -34,7 +34,8 @@ impl<'a> CheckedTable<'a> {
         Ok(CheckedTable { held })
     }
 
-    // The path that is recorded for (a, i, j), or what a window of it is refused for.
+    // The path that is recorded for (a, i, j), or what a window of it is refused for. Three numbers until they are asked: what is
+    // in range is a `Spot`.
     #[tactic(auto, using(words::proofs::Refusals::refusing), unfolding(crate::specs::Answers::window_check))]
     pub fn path(&self, a: usize, i: usize, j: usize) -> Result<RecordedPath<'a>, Refusal>
         ensures ok { IfOk result (λ p. (p.held ≡ self.now.held) × (p.spot ≡ record { nodes = self.now.held.lists.numbers.nodes; a = a; i = i; j = j })) }

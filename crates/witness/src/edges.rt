@@ -14,7 +14,8 @@ fn is_edge(edges: &[u16], sought: EdgeWords, e: usize) -> bool
     edges[3 * e] == sought.from && edges[3 * e + 1] == sought.label && edges[3 * e + 2] == sought.to
 }
 
-// The lowest edge with these words, if there is one. Kept a loop: the project wants a search that ends by `break` here.
+// The lowest edge with these words, if there is one. Kept a loop: docs/DECISIONS.md names the form, a search that
+// ends by `break`.
 #[tactic(auto, using(crate::proofs::Found::found_at, crate::proofs::Found::found_none))]
 pub(crate) fn find_edge(edges: &[u16], sought: EdgeWords) -> Option<usize>
     ensures { result ≡ found_edge edges.now sought.from sought.label sought.to }

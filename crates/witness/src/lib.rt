@@ -18,7 +18,7 @@ use lists::Lists;
 use numbers::Numbers;
 use words::Refusal;
 
-// Whether the table is right, whoever made it: Ok exactly if it is.
+// Whether the table is right, whoever made it: Ok exactly if it is. A public call keeps its slices and numbers.
 #[tactic(auto, using(words::proofs::Refusals::refusing), unfolding(crate::specs::Answers::check_answer))]
 pub fn check(
     numbers: Numbers,
@@ -39,6 +39,7 @@ pub fn check(
 }
 
 // Writes the part of the recorded path of (a, i, j) from position `from` on, as much of it as fits. Answers how many edges.
+// Ten parameters, since a public call keeps its slices and numbers.
 #[tactic(auto, using(words::proofs::Refusals::refusing, crate::proofs::Writes::window_refused), unfolding(crate::specs::Answers::window_check))]
 pub fn window(
     numbers: Numbers,
@@ -59,7 +60,7 @@ pub fn window(
     Ok(found.window(from, path))
 }
 
-// Writes the whole recorded path of (a, i, j). Answers how many edges.
+// Writes the whole recorded path of (a, i, j). Answers how many edges. Nine parameters, as `window`.
 #[tactic(auto, using(words::proofs::Refusals::refusing, crate::proofs::Writes::witness_refused), unfolding(crate::specs::Answers::window_check))]
 pub fn witness(
     numbers: Numbers,

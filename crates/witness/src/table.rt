@@ -112,7 +112,8 @@ impl<'a> Held<'a> {
         }
     }
 
-    // Whether one cell is as the table check wants it.
+    // Whether one cell is as the table check wants it. Key and length are read here once and handed on; a struct for the two
+    // calls is no plainer.
     #[tactic(auto, using(crate::proofs::Rights::cell_leaf, crate::proofs::Rights::cell_pair), unfolding(meaning::specs::Computed::right_cell, meaning::specs::Computed::right_word))]
     fn cell_right(&self, s: Spot) -> bool
         ensures { result ≡ right_cell s.nodes self.now.lists.rules.now self.now.lists.edges.now self.now.table.now self.now.lengths.now s.a s.i s.j }

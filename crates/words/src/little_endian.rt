@@ -33,6 +33,7 @@ pub trait Word: Copy {
     ghost each: { (l : List Self) → values l ≡ map value l };
 }
 
+// An impl for each size is written out: the gate takes none that a macro of the repository writes.
 impl Word for u16 {
     ghost SIZE = { 2 };
 
