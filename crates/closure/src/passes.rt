@@ -55,7 +55,9 @@ fn join(
 // write, which is no plainer.
 impl PairRule {
     // Its steps at i and k, where the left side is filled.
-    // That was read once: a step never wins at its own left side, since it is higher.
+    // That was read once: a step never wins at its own left side, since it is higher. Not inlined: on full tables the time then
+    // hangs less on where the linker puts the loop, and thin ones take less.
+    #[inline(never)]
     fn row(self, table: &mut [u64], i: u16, k: u16, left: Key) -> Result<bool, Refusal>
         requires low { LowTable self.size table.old }
         requires i_lt_nodes { (i < self.size.nodes) × (k < self.size.nodes) }
