@@ -21,7 +21,7 @@ use Rattle.meaning.proofs.Cells.{cell_in, Given, candidate_left, candidate_cases
 use Rattle.meaning.proofs.Sums.{total_less}
 use Rattle.meaning.proofs.Steps.{step_wins, step_keeps, step_falls}
 use Rattle.meaning.proofs.After.{after-append}
-use Rattle.words.specs.declared.Refusal.{Refusal}
+use Rattle.words.specs.Refusals.{Refusal}
 use Rattle.closure.specs.declared.Size.{Size}
 use Rattle.closure.specs.declared.PairRule.{PairRule}
 use Rattle.std.specs.declared.result.Result.TheVariants.{Ok, Err}

@@ -4,7 +4,7 @@ use mathlib.Core.Path.{◌≡◌, refl, sym, ap, ◌∙◌}
 use Prim.Native.Nat.{ℕ, ◌*◌, ◌≤◌, ◌<◌}
 use native.Mathlib.Omega.{arith}
 use lib.ListN.{length, take}
-use Rattle.words.specs.declared.Refusal.{Refusal}
+use Rattle.words.specs.Refusals.{Refusal}
 use Rattle.words.proofs.Tab.{over_fits, take-over}
 use Rattle.words.proofs.Refusals.{and_good}
 use Rattle.words.specs.Refusals.{Check, Good}

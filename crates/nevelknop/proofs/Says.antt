@@ -5,7 +5,7 @@ use mathlib.Core.List.{List}
 use Prim.Native.Nat.{ℕ, ◌/◌, ◌%◌, ◌^◌}
 use native.Mathlib.Omega.{arith}
 use lib.ListN.{length}
-use Rattle.words.specs.declared.Refusal.{Refusal}
+use Rattle.words.specs.Refusals.{Refusal}
 use Rattle.words.proofs.Refusals.{good_bad, bad_same}
 use Rattle.words.specs.Refusals.{Check, Good, number_of}
 use Rattle.std.specs.Prelude.{Ok, Err}

@@ -28,7 +28,7 @@ use Rattle.lists.specs.Lists.{net}
 use Rattle.lists.proofs.Right.{RightLists, sane}
 use Rattle.start.specs.Calls.{StartCall}
 use Rattle.start.proofs.Order.{start_good}
-use Rattle.words.specs.declared.Refusal.{Refusal}
+use Rattle.words.specs.Refusals.{Refusal}
 use Rattle.step.specs.Entering.{step_answer}
 use Rattle.step.specs.Calls.{usable_check, height_check, step_cells_check, step_check, step_of, Accepts, asked, Calls, none, call}
 use Rattle.step.specs.declared.Ask.{Ask}

@@ -5,7 +5,7 @@ use Prim.Native.Nat.{ℕ}
 use Rattle.numbers.specs.declared.Numbers.{Numbers}
 use mathlib.Core.Bool.{Bool}
 use Rattle.std.specs.Prelude.{Result}
-use Rattle.words.specs.declared.Refusal.{Refusal}
+use Rattle.words.specs.Refusals.{Refusal}
 use Rattle.step.specs.Calls.{step_of}
 
 -- an equation settles by itself

@@ -6,7 +6,7 @@ use Prim.Native.Nat.{ℕ, ◌≤◌, ◌<◌}
 use native.Mathlib.Omega.{arith}
 use lib.ListN.{length, take}
 use Rattle.std.specs.Prelude.{Result, Ok, Err}
-use Rattle.words.specs.declared.Refusal.{Refusal}
+use Rattle.words.specs.Refusals.{Refusal}
 use Rattle.words.proofs.Tab.{length_over, take-over}
 use Rattle.words.proofs.Refusals.{good_bad}
 use Rattle.meaning.proofs.Recorded.{recorded_length}

@@ -4,7 +4,7 @@ use mathlib.Core.List.{List}
 use Prim.Native.Nat.{ℕ}
 use lib.ListN.{length}
 use Rattle.std.specs.Prelude.{Result, Ok, Err}
-use Rattle.words.specs.declared.Refusal.{Refusal}
+use Rattle.words.specs.Refusals.{Refusal}
 use Rattle.words.specs.Tab.{over}
 use Rattle.words.proofs.Refusals.{good_bad, bad_same, and_good}
 use Rattle.words.specs.Refusals.{Check, Good}

@@ -7,8 +7,8 @@ use native.Mathlib.Numerals.{one-add}
 use native.Mathlib.Omega.{arith}
 use lib.Arith.{mod-mul}
 use lib.Dec.{lit<}
-use lib.ListN.{length, get_or, set, length-set}
-use lib.Seq.{get_or-set_same, get_or-set_other, set-get_or}
+use lib.ListN.{length, get_or, set, length-set, get_or-eq_default}
+use lib.Seq.{get_or-set_same, get_or-set_other, set-get_or, set_out}
 use Rattle.words.specs.Bytes.{le_at, put_le}
 
 -- ---- a number that is read
@@ -54,6 +54,12 @@ le_at_more n k s p h r =
     let b : p + (k - 1) + 1 ≡ p + k = omega arith in
     rw (a, b) (omega arith)
 
+-- past the end
+pub le_at_past : (n : ℕ) (s : List ℕ) (p : ℕ) → length s ≤ p → le_at n s p ≡ 0
+unfolding le_at
+le_at_past zero s p h = refl
+le_at_past (suc n) s p h = rw (get_or-eq_default s 0 h, le_at_past n s (p + 1) (omega arith))
+
 -- ---- a number that is written
 
 -- what code does: from the lowest byte up; no byte left
@@ -84,10 +90,26 @@ put_le_join (suc m) n s p x =
 low : (n x : ℕ) → x % 256 ^ suc n ≡ x / 256 % 256 ^ n * 256 + x % 256
 low n x = rw pow-suc (mod-mul x (one-le-pow n 256 (lit< tt)) (lit< tt))
 
+-- only the n lowest bytes of x count
+pub put_le_mod : (n : ℕ) (s : List ℕ) (p x : ℕ) → put_le n s p (x % 256 ^ n) ≡ put_le n s p x
+unfolding put_le
+put_le_mod zero s p x = refl
+put_le_mod (suc n) s p x =
+    let q = low n x in
+    let lo : x % 256 ^ suc n % 256 ≡ x % 256 = omega (arith, q) in
+    let hi : x % 256 ^ suc n / 256 ≡ x / 256 % 256 ^ n = omega (arith, q) in
+    rw (lo, hi) (put_le_mod n (set s p (x % 256)) (p + 1) (x / 256))
+
 pub length-put_le : (n : ℕ) (s : List ℕ) (p x : ℕ) → length (put_le n s p x) ≡ length s
 unfolding put_le
 length-put_le zero s p x = refl
 length-put_le (suc n) s p x = length-put_le n (set s p (x % 256)) (p + 1) (x / 256) ∙ length-set s p (x % 256)
+
+-- past the end
+pub put_le_past : (n : ℕ) (s : List ℕ) (p x : ℕ) → length s ≤ p → put_le n s p x ≡ s
+unfolding put_le
+put_le_past zero s p x h = refl
+put_le_past (suc n) s p x h = rw (set_out s p (x % 256) h) (put_le_past n s (p + 1) (x / 256) (omega arith))
 
 -- the positions before it keep their values
 pub get_or-put_le_before : (n : ℕ) (s : List ℕ) (p x i : ℕ) → i < p → get_or (put_le n s p x) i 0 ≡ get_or s i 0

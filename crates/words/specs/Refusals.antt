@@ -2,7 +2,7 @@
 use Rattle.std.specs.Prelude.{codes, decimal, ◌≡◌, ◌<◌, List, ◌++◌, ℕ, zero, suc, Bool, cond, Result, Ok, Err}
 use Rattle.words.specs.declared.Reason.{Reason}
 use Rattle.words.specs.declared.Reason.TheVariants.{WrongSize, WrongSum, WrongOrder, WrongNumber, WrongCount, WrongEntry, WrongRule, WrongEdge, UnknownKind, TooShort, WrongCell, TooHigh, TooLarge, NoPath, WrongArgument}
-use Rattle.words.specs.declared.Refusal.{Refusal}
+use Rattle.words.specs.declared.Refusal.{Refusal as RefusalFor}
 
 infixr 20 ◌and_then◌
 -- the number of a reason
@@ -23,32 +23,40 @@ number_of TooLarge = 13
 number_of NoPath = 14
 number_of WrongArgument = 15
 
+-- a refusal for one of these reasons
+abbrev pub Refusal : Type 0
+Refusal = RefusalFor Reason
+
 -- what a refusal prints
 abbrev pub text_of : Refusal → List ℕ
 text_of r = codes "refused " ++ (decimal (number_of r.reason) ++ (codes " at " ++ decimal r.place))
 
+-- what a check answers that refuses for an R
+abbrev pub CheckFor : Type 0 → Type 0
+CheckFor R = Result (Unit {0}) (RefusalFor R)
+
 -- what a check answers
 abbrev pub Check : Type 0
-Check = Result (Unit {0}) Refusal
+Check = CheckFor Reason
 
-abbrev pub Good : Check
+abbrev pub Good : {R : Type 0} → CheckFor R
 Good = Ok tt
 
 -- refusal k at place p
-abbrev pub refused : Reason → ℕ → Check
+abbrev pub refused : {R : Type 0} → R → ℕ → CheckFor R
 refused k p = Err (record { reason = k; place = p })
 
 -- refusal k at place p, unless b holds
-unfoldable pub must : Bool → Reason → ℕ → Check
+unfoldable pub must : {R : Type 0} → Bool → R → ℕ → CheckFor R
 must b k p = cond b Good (refused k p)
 
 -- the first check's refusal, or else the second's
-unfoldable pub ◌and_then◌ : Check → Check → Check
+unfoldable pub ◌and_then◌ : {R : Type 0} → CheckFor R → CheckFor R → CheckFor R
 Ok _ and_then y = y
 Err r and_then y = Err r
 
 -- the checks c 0, .., c (n - 1) in this order: of several refusals, the one at the lowest index
-unfoldable pub scan : (ℕ → Check) → ℕ → Check
+unfoldable pub scan : {R : Type 0} → (ℕ → CheckFor R) → ℕ → CheckFor R
 scan c zero = Good
 scan c (suc n) = scan c n and_then c n
 

@@ -1,5 +1,6 @@
 // Numbers in lists of words: little-endian words in bytes at every size, and the refusals that checks give.
-// Every function is total, and its promise settles its answer.
+// Every function is total, but that `scan` asks of its check that it can be called, and `from_u64` for a number that fits; and
+// each promise settles its answer.
 #![tactic(auto)]
 
 ghost use Rattle.std.specs.Prelude.{◌≡◌, ◌<◌, ℕ, Some};
@@ -38,10 +39,10 @@ impl Reason {
     }
 }
 
-// A reason, and the place that it speaks of.
+// A reason, and the place that it speaks of: one of the fifteen, unless the caller has its own.
 #[derive(Clone, Copy, Debug, PartialEq, Eq)]
-pub struct Refusal {
-    pub reason: Reason,
+pub struct Refusal<R = Reason> {
+    pub reason: R,
     pub place: usize,
 }
 
@@ -55,9 +56,9 @@ impl fmt::Display for Refusal {
     }
 }
 
-// A refusal for `reason` at `place`, unless `ok` holds.
+// A refusal for `reason` at `place`, unless `ok` holds. A reason is what the caller takes for one: here it is always a `Reason`.
 #[tactic(auto, unfolding(crate::specs::Refusals::must))]
-pub fn must(ok: bool, reason: Reason, place: usize) -> Result<(), Refusal>
+pub fn must<R: Copy>(ok: bool, reason: R, place: usize) -> Result<(), Refusal<R>>
     ensures { result ≡ must_of ok reason place }
 {
     if ok {

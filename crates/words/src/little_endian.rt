@@ -1,5 +1,6 @@
 // Little-endian words in bytes, at every size. Both functions are total: a byte past the end reads as 0 and is not
-// written. Each promise is an equation, which settles the answer, or every byte of the lent slice.
+// written. Each promise is an equation, which settles the answer, since two words of one number are one (`one`), or every
+// byte of the lent slice.
 
 ghost use Rattle.std.specs.Prelude.{◌≡◌, ℕ, ◌+◌, ◌^◌, ◌<◌, ◌≤◌, List, map, slice_index, slice_set};
 ghost use Rattle.std.proofs.Common.{rules};
@@ -31,6 +32,8 @@ pub trait Word: Copy {
     ghost small: { SIZE ≤ 8 };
 
     ghost each: { (l : List Self) → values l ≡ map value l };
+
+    ghost one: { (x y : Self) → value x ≡ value y → x ≡ y };
 }
 
 // An impl for each size is written out: the gate takes none that a macro of the repository writes.
@@ -56,6 +59,8 @@ impl Word for u16 {
     ghost small = { Prim.search rules };
 
     ghost each = { Prim.search (rules, common_steps) };
+
+    ghost one = { λ x y same. same };
 }
 
 impl Word for u32 {
@@ -80,6 +85,8 @@ impl Word for u32 {
     ghost small = { Prim.search rules };
 
     ghost each = { Prim.search (rules, common_steps) };
+
+    ghost one = { λ x y same. same };
 }
 
 impl Word for u64 {
@@ -104,6 +111,8 @@ impl Word for u64 {
     ghost small = { Prim.search rules };
 
     ghost each = { Prim.search (rules, common_steps) };
+
+    ghost one = { λ x y same. same };
 }
 
 // The byte k places behind position p. A position that does not fit a usize is past the end.
