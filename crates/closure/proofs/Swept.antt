@@ -2,7 +2,7 @@
 use mathlib.Core.Path.{◌≡◌, refl, sym, ap, subst, ◌∙◌}
 use mathlib.Core.List.{List, [], ◌∷◌, ◌++◌, append_assoc}
 use mathlib.Core.Logic.{◌⊎◌, inl, inr}
-use mathlib.Core.Bool.{Bool, true, false, ◌||◌}
+use mathlib.Core.Bool.{Bool, true, false}
 use Prim.Native.Nat.{ℕ, zero, suc, ◌+◌, ◌/◌, ◌≤◌, ◌<◌}
 use native.Mathlib.Omega.{arith}
 use native.Mathlib.Numerals.{add-one}
@@ -26,7 +26,7 @@ use Rattle.closure.specs.declared.Size.{Size}
 use Rattle.closure.specs.declared.PairRule.{PairRule}
 use Rattle.std.specs.declared.result.Result.TheVariants.{Ok, Err}
 use Rattle.closure.specs.Sizes.{count, LowTable, RuleInside, RulesInside}
-use Rattle.closure.specs.Passes.{Finding, StepMade, ask, row_steps, pair_steps, Higher, Found, Swept, passes, Settled}
+use Rattle.closure.specs.Passes.{Finding, merged, StepMade, ask, row_steps, pair_steps, Higher, Found, Swept, passes, Settled}
 
 -- the cells of a row are next to each other
 pub cell_next : (n A i j : ℕ) → cell n A i 0 + j ≡ cell n A i j
@@ -58,42 +58,33 @@ module _ (z : Size) where
   pub swept_none : (t : List ℕ) → LowTable z t → Swept z [] t t (Ok false)
   swept_none t low = record { found = (refl, refl); low = low; kept = refl }
 
-  -- two stretches after each other, of which the second may find a step too high
-  pub swept_more : (ss ss' : List Step) (t t' t'' : List ℕ) (a b : Bool) → Swept z ss t t' (Ok a) → Swept z ss' t' t'' (Ok b)
-      → Swept z (ss ++ ss') t t'' (Ok (a || b))
+  -- two stretches after each other, either of which may find a step too high
+  pub swept_more : (ss ss' : List Step) (t t' t'' : List ℕ) (a b : Finding) → Swept z ss t t' a → Swept z ss' t' t'' b
+      → Swept z (ss ++ ss') t t'' (merged a b)
   swept_more ss ss' t t' t'' a b p q = record { found = go a b p.found q.found; low = q.low; kept = q.kept ∙ p.kept }
     where
       n : ℕ
       n = z.nodes
 
-      go : (a b : Bool) → Found z ss t t' (Ok a) → Found z ss' t' t'' (Ok b) → Found z (ss ++ ss') t t'' (Ok (a || b))
-      go false false (e, d) (f, h) = rw (after-append n t ss ss', e, ← d) (f, h)
-      go false true (e, d) (f, l) = rw (after-append n t ss ss', e, ← d) (f, l)
-      go true false (e, l) (f, h) = rw (after-append n t ss ss', ← e, f, h) (refl, l)
-      go true true (e, l) (f, m) = rw (after-append n t ss ss', ← e) (f, omega arith)
-
-  pub swept_high : (ss ss' : List Step) (t t' t'' : List ℕ) (a : Bool) (r : Refusal) → Swept z ss t t' (Ok a) → Swept z ss' t' t'' (Err r)
-      → Swept z (ss ++ ss') t t'' (Err r)
-  swept_high ss ss' t t' t'' a r p q = record {
-    found = higher_right z.nodes t ss ss' r (rw (is a p.found) q.found);
-    low = q.low;
-    kept = q.kept ∙ p.kept;
-  }
-    where
-      is : (a : Bool) → Found z ss t t' (Ok a) → after z.nodes t ss ≡ t'
-      is false (e, d) = e ∙ sym d
-      is true (e, l) = sym e
+      go : (a b : Finding) → Found z ss t t' a → Found z ss' t' t'' b → Found z (ss ++ ss') t t'' (merged a b)
+      go (Ok false) (Ok false) (e, d) (f, h) = rw (after-append n t ss ss', e, ← d) (f, h)
+      go (Ok false) (Ok true) (e, d) (f, l) = rw (after-append n t ss ss', e, ← d) (f, l)
+      go (Ok false) (Err r) (e, d) h = higher_right n t ss ss' r (rw (e, ← d) h)
+      go (Ok true) (Ok false) (e, l) (f, h) = rw (after-append n t ss ss', ← e, f, h) (refl, l)
+      go (Ok true) (Ok true) (e, l) (f, m) = rw (after-append n t ss ss', ← e) (f, omega arith)
+      go (Ok true) (Err r) (e, l) h = higher_right n t ss ss' r (rw (← e) h)
+      go (Err r) b h q = higher_left n t ss ss' r h
 
   -- one more turn of a loop
-  pub swept_next : (f : ℕ → List Step) (x : ℕ) (t t' t'' : List ℕ) (a b : Bool) → Swept z (each x f) t t' (Ok a) → Swept z (f x) t' t'' (Ok b)
-      → Swept z (each (x + 1) f) t t'' (Ok (a || b))
+  pub swept_next : (f : ℕ → List Step) (x : ℕ) (t t' t'' : List ℕ) (a b : Finding) → Swept z (each x f) t t' a → Swept z (f x) t' t'' b
+      → Swept z (each (x + 1) f) t t'' (merged a b)
   swept_next f x t t' t'' a b p q = rw (add-one x) (swept_more (each x f) (f x) t t' t'' a b p q)
 
   -- or one whose steps change nothing
   pub swept_skip : (f : ℕ → List Step) (x : ℕ) (t t' : List ℕ) (a : Bool) → Swept z (each x f) t t' (Ok a) → Swept z (f x) t' t' (Ok false)
       → Swept z (each (x + 1) f) t t' (Ok a)
-  swept_skip f x t t' false p q = swept_next f x t t' t' false false p q
-  swept_skip f x t t' true p q = swept_next f x t t' t' true false p q
+  swept_skip f x t t' false p q = swept_next f x t t' t' (Ok false) (Ok false) p q
+  swept_skip f x t t' true p q = swept_next f x t t' t' (Ok true) (Ok false) p q
 
   -- a loop that stops at a step too high: so it would with all its turns
   pub swept_stop : (f : ℕ → List Step) (x n : ℕ) (t t' t'' : List ℕ) (a : Bool) (r : Refusal) → x < n → Swept z (each x f) t t' (Ok a)
@@ -102,7 +93,7 @@ module _ (z : Size) where
   swept_stop f x (suc n) t t' t'' a r l p q = go (ℕ_discrete x n) (λ m. swept_stop f x n t t' t'' a r m p q)
     where
       go : Dec (x ≡ n) → (x < n → Swept z (each n f) t t'' (Err r)) → Swept z (each (suc n) f) t t'' (Err r)
-      go (yes e) before = rw (← e) (swept_high (each x f) (f x) t t' t'' a r p q)
+      go (yes e) before = rw (← e) (swept_more (each x f) (f x) t t' t'' (Ok a) (Err r) p q)
       go (no d) before =
           let h = before (omega arith) in
           record { found = higher_left z.nodes t (each n f) (f n) r h.found; low = h.low; kept = h.kept }
@@ -111,7 +102,7 @@ module _ (z : Size) where
   pub swept_idle : (t : List ℕ) → LowTable z t → (f : ℕ → Step) (c : ℕ) → ((x : ℕ) → step z.nodes t (f x) ≡ t) → Swept z (each c λ x. f x ∷ []) t t (Ok false)
   swept_idle t low f zero idle = swept_none t low
   swept_idle t low f (suc c) idle =
-      swept_more (each c λ x. f x ∷ []) (f c ∷ []) t t t false false (swept_idle t low f c idle)
+      swept_more (each c λ x. f x ∷ []) (f c ∷ []) t t t (Ok false) (Ok false) (swept_idle t low f c idle)
       (record { found = (idle c, refl); low = low; kept = refl })
 
 high_true : (n : ℕ) (t : List ℕ) (s : Step) → offer n t s < get_or t (target_of n s) 0 → HIGHEST < height_of (offer n t s) → too_high n t s ≡ true
@@ -161,10 +152,11 @@ module _ (z : Size) (p : PairRule) (i k j : ℕ) (t t' : List ℕ) where
     }
 
 -- a step never wins at its own left side: what it offers is higher
-pub left_stays : (t t' : List ℕ) (c l y k r : ℕ) (a : Bool) → get_or t l 0 < EMPTY → StepMade t c (candidate (get_or t l 0) y k r) t' (Ok a)
+pub left_stays : (t t' : List ℕ) (c l y k r : ℕ) (a : Finding) → get_or t l 0 < EMPTY → StepMade t c (candidate (get_or t l 0) y k r) t' a
     → get_or t' l 0 ≡ get_or t l 0
-left_stays t t' c l y k r false filled (m, e) = rw e refl
-left_stays t t' c l y k r true filled (m, h, e) = go (ℕ_discrete l c) (candidate_cases (get_or t l 0) y k r)
+left_stays t t' c l y k r (Ok false) filled (m, e) = rw e refl
+left_stays t t' c l y k r (Err d) filled (m, h, e, q) = rw e refl
+left_stays t t' c l y k r (Ok true) filled (m, h, e) = go (ℕ_discrete l c) (candidate_cases (get_or t l 0) y k r)
   where
     v : ℕ
     v = candidate (get_or t l 0) y k r
@@ -201,12 +193,12 @@ module _ (z : Size) (p : PairRule) (i k j : ℕ) (t t' : List ℕ) (left to from
       let one : StepMade t' (target_of z.nodes (ask p i k j)) (offer z.nodes t' (ask p i k j)) t'' b = rw (et, ef, ← stays) at new in
       swept_join z p i k j t' t'' low h.target b one
 
-  pub row_more : (t'' : List ℕ) (a b : Bool) → Swept z (row_steps p i k j) t t' (Ok a) → New t'' (Ok b)
-      → Swept z (row_steps p i k (j + 1)) t t'' (Ok (a || b)) × (get_or t'' (cell z.nodes p.left i k) 0 ≡ left)
+  pub row_more : (t'' : List ℕ) (a b : Finding) → Swept z (row_steps p i k j) t t' a → New t'' b
+      → Swept z (row_steps p i k (j + 1)) t t'' (merged a b) × (get_or t'' (cell z.nodes p.left i k) 0 ≡ left)
   row_more t'' a b swept new = (
-    swept_next z (λ j. ask p i k j ∷ []) j t t' t'' a b swept (row_step t'' (Ok b) swept.low new),
+    swept_next z (λ j. ask p i k j ∷ []) j t t' t'' a b swept (row_step t'' b swept.low new),
     left_stays t' t'' (to + j) (cell z.nodes p.left i k) (get_or t' (from + j) 0) k p.number b (rw stays filled)
-        (subst (λ x. StepMade t' (to + j) (candidate x (get_or t' (from + j) 0) k p.number) t'' (Ok b)) (sym stays) new) ∙ stays,
+        (subst (λ x. StepMade t' (to + j) (candidate x (get_or t' (from + j) 0) k p.number) t'' b) (sym stays) new) ∙ stays,
   )
 
   pub row_stop : (t'' : List ℕ) (a : Bool) (r : Refusal) → j < z.nodes → Swept z (row_steps p i k j) t t' (Ok a) → New t'' (Err r)

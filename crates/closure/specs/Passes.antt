@@ -1,5 +1,5 @@
 -- What the passes are proved with: the steps that a stretch of code takes, in its order, and what it finds. Assumes nothing.
-use Rattle.std.specs.Prelude.{◌≡◌, List, [], ◌∷◌, ◌++◌, Bool, true, false, ℕ, ◌≤◌, ◌<◌, get_or, set, drop, Result, Ok, Err}
+use Rattle.std.specs.Prelude.{◌≡◌, List, [], ◌∷◌, ◌++◌, Bool, true, false, ◌||◌, ℕ, ◌≤◌, ◌<◌, get_or, set, drop, Result, Ok, Err}
 use Rattle.words.specs.declared.Reason.TheVariants.{TooHigh}
 use Rattle.words.specs.Refusals.{Refusal}
 use Rattle.words.specs.Refusals.{Check}
@@ -14,6 +14,12 @@ use Rattle.closure.specs.Sizes.{count, LowTable}
 -- what a stretch of steps finds: whether a step wrote, or the refusal where one would win with a height over 131,072
 abbrev pub Finding : Type 0
 Finding = Result Bool Refusal
+
+-- what two stretches find, one after the other: the first step too high, else whether one of them wrote
+abbrev pub merged : Finding → Finding → Finding
+merged (Ok a) (Ok b) = Ok (a || b)
+merged (Ok a) (Err r) = Err r
+merged (Err r) b = Err r
 
 -- a candidate v for cell c: not smaller, written, or too high
 abbrev pub StepMade : List ℕ → ℕ → ℕ → List ℕ → Finding → Type 0

@@ -56,7 +56,7 @@ fn join(
 impl PairRule {
     // Its steps at i and k, where the left side is filled.
     // That was read once: a step never wins at its own left side, since it is higher. Not inlined: on full tables the time then
-    // hangs less on where the linker puts the loop, and thin ones take less.
+    // hangs less on where the linker puts the loop.
     #[inline(never)]
     fn row(self, table: &mut [u64], i: u16, k: u16, left: Key) -> Result<bool, Refusal>
         requires low { LowTable self.size table.old }

@@ -57,7 +57,7 @@ loop-k-preserved c =
     let a = c.args in
     let f = λ (k : ℕ). row_steps a.self a.i k a.self.size.nodes in
     (elim c.if-not-is_empty.branch [
-      | then-not-is_empty+in_ok-moved w ↦ rw (w.table-is, w.moved-is) (swept_next a.self.size f l.k a.table.now l.table _ l.moved _ l.invariant w.in_ok-moved.ensures)
+      | then-not-is_empty+in_ok-moved w ↦ rw (w.table-is, w.moved-is) (swept_next a.self.size f l.k a.table.now l.table _ _ _ l.invariant w.in_ok-moved.ensures)
       | else-not-is_empty w ↦ rw (w.table-is, w.moved-is)
           (swept_skip a.self.size f l.k a.table.now l.table l.moved l.invariant
           (row_idle a.self.size a.self a.i l.k a.self.size.nodes l.table l.invariant.low (λ x. grind arith)

@@ -7,6 +7,7 @@ use native.Mathlib.Omega.{arith}
 use lib.ListN.{length}
 use Rattle.std.proofs.Math.Bool.{or-true, or-false}
 use Rattle.std.proofs.lemmas.Result.{err_from_is_err_and}
+use Rattle.std.specs.declared.result.Result.TheVariants.{Ok}
 use Rattle.meaning.specs.Steps.{right_of}
 use Rattle.closure.specs.Passes.{ask}
 use Rattle.closure.proofs.Swept.{cell_next, swept_none, Cells, cells_in, row_more, row_stop}
@@ -78,5 +79,5 @@ loop-j-preserved c =
     let a = c.args in
     let m =
     row_more a.self.size a.self a.i a.k l.j a.table.now l.table a.left.word _ _ (spot (goal.at.loop-j-preserved c).In-loop-j) c.cell-to.ensures
-    c.cell-from.ensures c.requires.k_value.1 l.invariant.left c.join.new.table l.moved _ l.invariant.swept c.in_ok-join.ensures in
+    c.cell-from.ensures c.requires.k_value.1 l.invariant.left c.join.new.table _ (Ok c.in_ok-join.field-0) l.invariant.swept c.in_ok-join.ensures in
     record { swept = rw (moved_is (goal.at.loop-j-preserved c).Joined-branch) m.0; left = m.1 }

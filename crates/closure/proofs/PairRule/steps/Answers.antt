@@ -16,4 +16,4 @@ pub loop-i-preserved : goal.loop-i-preserved
 loop-i-preserved c =
     let l = c.loop-i in
     let a = c.args in
-    swept_next a.self.size (λ i. node_steps a.self a.self.size.nodes i a.self.size.nodes) l.i a.table.now l.table _ l.moved _ l.invariant c.in_ok-moved.ensures
+    swept_next a.self.size (λ i. node_steps a.self a.self.size.nodes i a.self.size.nodes) l.i a.table.now l.table _ _ _ l.invariant c.in_ok-moved.ensures

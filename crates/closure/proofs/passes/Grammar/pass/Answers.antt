@@ -21,7 +21,7 @@ pub loop-r-preserved : goal.loop-r-preserved
 loop-r-preserved c =
     let l = c.loop-r in
     let a = c.args in
-    swept_next a.self.now.size (rule_steps a.self.now.rules.now a.self.now.size.nodes) l.r a.table.now l.table _ l.moved _ l.invariant c.in_ok-moved.ensures
+    swept_next a.self.now.size (rule_steps a.self.now.rules.now a.self.now.size.nodes) l.r a.table.now l.table _ _ _ l.invariant c.in_ok-moved.ensures
 
 pub returns : goal.returns
 unfolding steps_of
