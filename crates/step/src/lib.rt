@@ -16,12 +16,13 @@ use numbers::{Numbers, cells, room};
 use words::{Reason, Refusal, must};
 
 // The arguments of a step: a pair rule, by its number, and the nodes that it goes from, over and to.
+// Public, since what is proved of sequences of calls is stated over lists of them.
 #[derive(Clone, Copy)]
-struct Ask {
-    rule: usize,
-    from: usize,
-    middle: usize,
-    to: usize,
+pub struct Ask {
+    pub rule: usize,
+    pub from: usize,
+    pub middle: usize,
+    pub to: usize,
 }
 
 // A step by its cells: it may write the first and reads the other two.
