@@ -14,7 +14,7 @@ use lists::Lists;
 use numbers::{cells, large};
 use pen::Pen;
 use query::Query;
-use witness::CheckedTable;
+use witness::{CheckedTable, Held};
 use words::Refusal;
 
 mod lines;
@@ -37,7 +37,8 @@ fn whole(pen: &mut Pen, header: Header, query: Query, depth: u32)
 }
 
 // Table and lengths stay two: the run writes both.
-// Of lists that pass the engine's checks the run refuses nothing, and the table check accepts what it has made.
+// Of lists that pass the engine's checks the run refuses nothing, and the table check accepts what it has made: that is proved,
+// and the table check is not asked.
 fn closed(
     pen: &mut Pen,
     header: Header,
@@ -51,7 +52,13 @@ fn closed(
     ensures { MatchResult result (λ _. ReportPenned (Whole header lists.entry.rules.now lists.entry.edges.now) pen.old pen.new) (λ _. ⊥) }
 {
     let depth = run(lists.numbers, lists.rules, lists.edges, table, lengths)?;
-    let checked = CheckedTable::new(lists, table, lengths)?;
+    let checked = CheckedTable {
+        held: Held {
+            lists,
+            table,
+            lengths,
+        },
+    };
     let query = Query {
         checked,
         head: header.query,
@@ -74,6 +81,7 @@ fn accepted(pen: &mut Pen, header: Header, lists: Lists) -> Result<(), Refusal>
 }
 
 // The report of a deck that the reader accepts and that is not too large.
+// That the lists of such a deck pass the engine's checks is proved: the run alone asks them.
 fn shown(pen: &mut Pen, deck: &[u8]) -> Result<(), Refusal>
     ensures { ShownIs deck.now pen.old pen.new result }
 {
@@ -85,7 +93,11 @@ fn shown(pen: &mut Pen, deck: &[u8]) -> Result<(), Refusal>
     large(numbers, header.edges)?;
     let m = 3 * header.rules;
     let n = 3 * header.edges;
-    let lists = Lists::new(numbers, &rules[..m], &edges[..n])?;
+    let lists = Lists {
+        numbers,
+        rules: &rules[..m],
+        edges: &edges[..n],
+    };
     accepted(pen, header, lists)
 }
 

@@ -1,4 +1,4 @@
-// A table that the table check has accepted: what was asked of it once is not asked again.
+// A table that the table check accepts: what was asked of it once, or proved, is not asked again.
 ghost use Rattle.std.specs.Prelude.{◌≡◌, Err, IfErr, IfOk};
 ghost use Rattle.words.specs.Refusals.{Good};
 ghost use Rattle.witness.specs.Answers.{arguments_check, path_check, table_check, window_check};

@@ -13,7 +13,7 @@ mod table;
 
 pub use crate::checked::CheckedTable;
 pub use crate::path::RecordedPath;
-use crate::table::Held;
+pub use crate::table::Held;
 use lists::Lists;
 use numbers::Numbers;
 use words::Refusal;

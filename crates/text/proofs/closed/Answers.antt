@@ -1,6 +1,5 @@
 -- `text::closed` meets its contract: the run refuses nothing, and the table check accepts what it leaves. Assumes nothing.
-use mathlib.Core.Path.{refl, sym, ◌∙◌}
-use Rattle.words.proofs.Refusals.{good_bad}
+use mathlib.Core.Path.{refl}
 use Rattle.closure.specs.Runs.{Completed}
 use Rattle.text.specs.Report.{net_in}
 use Rattle.text.proofs.Runs.{run_good, run_never, run_accepted, run_query}
@@ -18,20 +17,15 @@ left c =
     let p = c.requires in
     rw (p.numbers, run_good p.small p.exact, c.in_ok-depth.was) at c.run.ensures
 
-pub returns-in_err-checked : goal.returns-in_err-checked
-returns-in_err-checked c =
+pub invariant_of-checked : goal.invariant_of-checked
+invariant_of-checked c =
     let p = c.requires in
-    let good = run_accepted p.small p.exact (left (goal.at.returns-in_err-checked c).In_ok-depth) in
-    absurd (good_bad (sym good ∙ (rw p.numbers at c.in_err-checked.ensures.err)))
+    record { right = rw p.numbers (run_accepted p.small p.exact (left (goal.at.invariant_of-checked c).In_ok-depth)) }
 
 pub whole-requires-clause-query_of : goal.whole-requires-clause-query_of
 whole-requires-clause-query_of c =
     let p = c.requires in
-    let t = c.in_ok-checked.ensures.ok in
-    run_query p.small p.exact (left (goal.at.whole-requires-clause-query_of c).In_ok-depth) _ refl
-    (rw t.0 p.numbers) (rw t.0 refl) (rw t.0 refl) (rw t.1.0 refl) (rw t.1.1 refl)
+    run_query p.small p.exact (left (goal.at.whole-requires-clause-query_of c).In_ok-depth) _ refl p.numbers refl refl refl refl
 
 pub whole-requires-clause-depth_value : goal.whole-requires-clause-depth_value
-whole-requires-clause-depth_value c =
-    let t = c.in_ok-checked.ensures.ok in
-    rw t.1.0 (left (goal.at.whole-requires-clause-depth_value c).In_ok-depth).deep
+whole-requires-clause-depth_value c = (left (goal.at.whole-requires-clause-depth_value c).In_ok-depth).deep

@@ -1,10 +1,10 @@
 -- `text::shown` meets its contract. Assumes nothing.
-use mathlib.Core.Path.{refl, sym, ◌∙◌}
+use mathlib.Core.Path.{refl, sym}
 use Prim.Native.Nat.{ℕ}
 use native.Mathlib.Omega.{arith}
 use lib.ListN.{replicate, length-replicate}
 use lib.Seq.{length-take-le}
-use Rattle.words.proofs.Refusals.{handed_on, good_bad}
+use Rattle.words.proofs.Refusals.{handed_on}
 use Rattle.deck.proofs.Leaves.{ReadIs, read_is}
 use Rattle.text.proofs.Reports.{told_size, read_refused, read_large, read_small, read_shown}
 use Rattle.text.proofs.shown.Goals.{In_ok-header}
@@ -38,28 +38,26 @@ overflow_mul-n c = omega (arith, (left (goal.at.overflow_mul-n c).In_ok-header).
 pub slice_bounds-rules-end : goal.slice_bounds-rules-end
 slice_bounds-rules-end c = (left (goal.at.slice_bounds-rules-end c).In_ok-header).rules_fit
 
-pub slice_bounds-new-end : goal.slice_bounds-new-end
-slice_bounds-new-end c = sym (length-take-le _ _ (left (goal.at.slice_bounds-new-end c).In_ok-header).rules_fit)
+pub slice_bounds-lists-end : goal.slice_bounds-lists-end
+slice_bounds-lists-end c = sym (length-take-le _ _ (left (goal.at.slice_bounds-lists-end c).In_ok-header).rules_fit)
 
 pub slice_bounds-edges-end : goal.slice_bounds-edges-end
 slice_bounds-edges-end c = (left (goal.at.slice_bounds-edges-end c).In_ok-header).edges_fit
 
-pub slice_bounds-new-end-2 : goal.slice_bounds-new-end-2
-slice_bounds-new-end-2 c = sym (length-take-le _ _ (left (goal.at.slice_bounds-new-end-2 c).In_ok-header).edges_fit)
+pub slice_bounds-lists-end-2 : goal.slice_bounds-lists-end-2
+slice_bounds-lists-end-2 c = sym (length-take-le _ _ (left (goal.at.slice_bounds-lists-end-2 c).In_ok-header).edges_fit)
 
-pub returns-in_err-lists : goal.returns-in_err-lists
-returns-in_err-lists c =
-    let s = left (goal.at.returns-in_err-lists c).In_ok-header in
-    absurd (good_bad (sym s.lists ∙ (rw (c.numbers_in-numbers.ensures, s.rules_are, s.edges_are) at c.in_err-lists.ensures.err)))
+pub invariant_of-lists : goal.invariant_of-lists
+invariant_of-lists c =
+    let s = left (goal.at.invariant_of-lists c).In_ok-header in
+    record { passed = rw (c.numbers_in-numbers.ensures, s.rules_are, s.edges_are) s.lists }
 
 pub accepted-requires : goal.accepted-requires
 accepted-requires c =
-    let l = c.in_ok-lists.ensures.ok in
     let e = told_size c.in_ok-header.header c.numbers_in-numbers.ensures c.large.ensures c.in_ok-large.was in
-    record { numbers = l.0 ∙ c.numbers_in-numbers.ensures; small = rw (l.1.0, l.1.1) (read_small _ (left (goal.at.accepted-requires c).In_ok-header) e) }
+    record { numbers = c.numbers_in-numbers.ensures; small = read_small _ (left (goal.at.accepted-requires c).In_ok-header) e }
 
 pub returns : goal.returns
 returns c =
-    let l = c.in_ok-lists.ensures.ok in
     let e = told_size c.in_ok-header.header c.numbers_in-numbers.ensures c.large.ensures c.in_ok-large.was in
-    read_shown _ (left (goal.at.returns c).In_ok-header) _ _ _ e (rw (l.1.0, l.1.1) at c.accepted.ensures)
+    read_shown _ (left (goal.at.returns c).In_ok-header) _ _ _ e c.accepted.ensures
