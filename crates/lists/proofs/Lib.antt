@@ -1,3 +1,4 @@
--- What the check's answer tells: the facts of accepted lists, and when each refusal is given.
+-- What the check's answer tells: the facts of accepted lists, when each refusal is given, and that the answer of `Lists::new` is settled.
 pub mod Right
 pub mod Given
+pub mod Settled
