@@ -7,8 +7,7 @@ use native.Mathlib.Omega.{arith}
 use native.Mathlib.Decide.{dec_lt}
 use lib.ListN.{length, get_or}
 use Rattle.key.specs.Keys.{EMPTY, HIGHEST, height_of, middle_of}
-use Rattle.words.specs.Refusals.{Good}
-use Rattle.words.specs.Refusals.{Refusal}
+use Rattle.words.specs.Refusals.{Refusal, Good}
 use Rattle.std.specs.Prelude.{Result, Ok, Err}
 use Rattle.words.proofs.Refusals.{and_good}
 use Rattle.meaning.specs.Net.{Net, Sane}

@@ -5,8 +5,7 @@ use Prim.Native.Nat.{ℕ}
 use native.Mathlib.Omega.{arith}
 use lib.ListN.{length}
 use Rattle.std.specs.Prelude.{Result, Ok, Err}
-use Rattle.words.specs.Refusals.{Refusal}
-use Rattle.words.specs.Refusals.{Check, Good}
+use Rattle.words.specs.Refusals.{Refusal, Check, Good}
 use Rattle.words.proofs.Refusals.{and_good}
 use Rattle.meaning.specs.Net.{Net, Sane}
 use Rattle.meaning.proofs.FinalTables.{final_lists}

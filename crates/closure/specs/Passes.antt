@@ -1,8 +1,7 @@
 -- What the passes are proved with: the steps that a stretch of code takes, in its order, and what it finds. Assumes nothing.
 use Rattle.std.specs.Prelude.{◌≡◌, List, [], ◌∷◌, ◌++◌, Bool, true, false, ◌||◌, ℕ, ◌≤◌, ◌<◌, get_or, set, drop, Result, Ok, Err}
 use Rattle.words.specs.declared.Reason.TheVariants.{TooHigh}
-use Rattle.words.specs.Refusals.{Refusal}
-use Rattle.words.specs.Refusals.{Check}
+use Rattle.words.specs.Refusals.{Refusal, Check}
 use Rattle.key.specs.Keys.{HIGHEST, height_of}
 use Rattle.meaning.specs.Table.{total}
 use Rattle.meaning.specs.Steps.{Step, after, target_of, too_high}

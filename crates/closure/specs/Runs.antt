@@ -2,8 +2,7 @@
 use Rattle.std.specs.Prelude.{◌≡◌, List, true, ℕ, drop, replicate, Result, Ok, Err}
 use Rattle.key.specs.Keys.{EMPTY}
 use Rattle.words.specs.declared.Reason.TheVariants.{TooHigh}
-use Rattle.words.specs.Refusals.{Refusal}
-use Rattle.words.specs.Refusals.{◌and_then◌, Check}
+use Rattle.words.specs.Refusals.{Refusal, ◌and_then◌, Check}
 use Rattle.words.specs.Tab.{over}
 use Rattle.meaning.specs.Net.{Net}
 use Rattle.meaning.specs.Table.{cells, StartTable}

@@ -7,8 +7,7 @@ use native.Mathlib.Omega.{arith}
 use lib.ListN.{length}
 use lib.Dec.{leb, ltb, eqb}
 use borrow.Author.Tests.{lt-ltb, ltb-true, leb-true, eqb-true}
-use Rattle.words.specs.Refusals.{must, ◌and_then◌, scan, Good}
-use Rattle.words.specs.Refusals.{Refusal}
+use Rattle.words.specs.Refusals.{Refusal, must, ◌and_then◌, scan, Good}
 use Rattle.words.proofs.First.{first_le}
 use Rattle.words.proofs.Refusals.{both, must_good, and_good, and_assoc, and_stop, and_next, scan_good}
 use Rattle.std.specs.Prelude.{Err, Some}

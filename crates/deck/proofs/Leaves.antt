@@ -4,10 +4,9 @@ use mathlib.Core.Path.{◌≡◌, refl, sym, ap, ◌∙◌}
 use Prim.Native.Nat.{ℕ, ◌*◌, ◌≤◌, ◌<◌}
 use native.Mathlib.Omega.{arith}
 use lib.ListN.{length, take}
-use Rattle.words.specs.Refusals.{Refusal}
 use Rattle.words.proofs.Tab.{over_fits, take-over}
 use Rattle.words.proofs.Refusals.{and_good}
-use Rattle.words.specs.Refusals.{Check, Good}
+use Rattle.words.specs.Refusals.{Refusal, Check, Good}
 use Rattle.std.specs.Prelude.{Result, Ok, Err}
 use Rattle.lists.specs.Lists.{lists_check}
 use Rattle.numbers.proofs.Right.{room_good}

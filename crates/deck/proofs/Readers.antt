@@ -11,8 +11,7 @@ use lib.Dec.{leb}
 use borrow.Author.Count.{below_more}
 use borrow.Author.Tests.{le-leb, lt-leb, eq-eqb, ne_eqb}
 use Rattle.words.proofs.First.{first_at, first_end}
-use Rattle.words.specs.Refusals.{Refusal}
-use Rattle.words.specs.Refusals.{scan, Check, Good}
+use Rattle.words.specs.Refusals.{Refusal, scan, Check, Good}
 use Rattle.words.proofs.Refusals.{scan_good, scan_bad, scan_more}
 use Rattle.std.specs.Prelude.{Err}
 use Rattle.deck.specs.Blocks.{blocks, type_of, used_of, records_in, total, first_of}

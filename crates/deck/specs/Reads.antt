@@ -1,7 +1,6 @@
 -- The reader: its checks in their order, its answer, and what it leaves in the two lent lists. Assumes nothing.
 use Rattle.std.specs.Prelude.{List, Bool, cond, ◌&&◌, ◌||◌, ℕ, ◌*◌, ◌-◌, ◌/◌, ◌%◌, length, eqb, leb, ltb, Result, Ok, Err}
-use Rattle.words.specs.Refusals.{refused, must, ◌and_then◌, scan, Check}
-use Rattle.words.specs.Refusals.{Refusal}
+use Rattle.words.specs.Refusals.{Refusal, refused, must, ◌and_then◌, scan, Check}
 use Rattle.words.specs.First.{first}
 use Rattle.words.specs.Tab.{tab, over}
 use Rattle.words.specs.declared.Reason.TheVariants.{WrongSize, WrongSum, WrongOrder, WrongNumber, WrongCount, WrongEntry, WrongRule, WrongEdge, UnknownKind}

@@ -8,8 +8,7 @@ use Prim.Native.Nat.{ℕ, ◌/◌, ◌%◌, ◌≤◌, ◌<◌}
 use native.Mathlib.Omega.{arith}
 use lib.ListN.{length, get_or}
 use lib.Dec.{eqb}
-use Rattle.words.specs.Refusals.{Refusal}
-use Rattle.words.specs.Refusals.{refused, must, ◌and_then◌, scan, Check, Good, number_of}
+use Rattle.words.specs.Refusals.{Refusal, refused, must, ◌and_then◌, scan, Check, Good, number_of}
 use Rattle.words.proofs.Refusals.{differs, and_assoc, Only, only_must, only_and, only_scan, and_first, and_second, LowestWrong, scan_must}
 use Rattle.words.specs.declared.Reason.{Reason}
 use Rattle.words.specs.declared.Reason.TheVariants.{WrongNumber, WrongCount, WrongRule, WrongEdge}

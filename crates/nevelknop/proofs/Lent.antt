@@ -6,10 +6,9 @@ use native.Mathlib.Omega.{arith}
 use lib.ListN.{length, get_or, take, replicate, length-replicate}
 use lib.Seq.{take_all}
 use Rattle.std.proofs.lemmas.List.{length-map, take-map}
-use Rattle.words.specs.Refusals.{Refusal}
 use Rattle.words.specs.Tab.{over}
 use Rattle.words.proofs.Tab.{take-over}
-use Rattle.words.specs.Refusals.{Check}
+use Rattle.words.specs.Refusals.{Refusal, Check}
 use Rattle.std.specs.Prelude.{Result, Ok, Err}
 use Rattle.packing.specs.Packed.{unpacked, packed, unpacked_into, packed_into}
 use Rattle.packing.proofs.Packed.{repacked}

@@ -8,8 +8,7 @@ use mathlib.Core.Bool.{true}
 use lib.ListN.{length}
 use lib.Dec.{eqb}
 use borrow.Author.Tests.{eqb-true, eq-eqb}
-use Rattle.words.specs.Refusals.{Refusal}
-use Rattle.words.specs.Refusals.{◌and_then◌, Check, Good}
+use Rattle.words.specs.Refusals.{Refusal, ◌and_then◌, Check, Good}
 use Rattle.packing.specs.Packed.{unpacked}
 use Rattle.words.proofs.Refusals.{must_good, and_good, and_bad, and_next, and_stop}
 use Rattle.words.proofs.Tab.{length-tab}

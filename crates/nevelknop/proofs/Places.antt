@@ -6,8 +6,7 @@ use native.Mathlib.Omega.{arith}
 use mathlib.Core.Bool.{Bool}
 use lib.Dec.{leb}
 use lib.ListN.{length}
-use Rattle.words.specs.Refusals.{Refusal}
-use Rattle.words.specs.Refusals.{must, Check, Good}
+use Rattle.words.specs.Refusals.{Refusal, must, Check, Good}
 use Rattle.words.proofs.Refusals.{Only, only_must, only_and, only_scan, and_good, good_bad}
 use Rattle.std.specs.Prelude.{Result, Ok, Err}
 use Rattle.words.specs.declared.Reason.TheVariants.{WrongCount, TooShort, WrongCell, TooLarge, NoPath, WrongArgument}

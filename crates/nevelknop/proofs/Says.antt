@@ -5,9 +5,8 @@ use mathlib.Core.List.{List}
 use Prim.Native.Nat.{ℕ, ◌/◌, ◌%◌, ◌^◌}
 use native.Mathlib.Omega.{arith}
 use lib.ListN.{length}
-use Rattle.words.specs.Refusals.{Refusal}
 use Rattle.words.proofs.Refusals.{good_bad, bad_same}
-use Rattle.words.specs.Refusals.{Check, Good, number_of}
+use Rattle.words.specs.Refusals.{Refusal, Check, Good, number_of}
 use Rattle.std.specs.Prelude.{Ok, Err}
 use Rattle.meaning.specs.Table.{cells}
 use Rattle.meaning.proofs.Depth.{depth_small}

@@ -4,8 +4,7 @@ use mathlib.Core.List.{List}
 use Prim.Native.Nat.{ℕ, ◌*◌, ◌/◌, ◌≤◌}
 use native.Mathlib.Omega.{arith}
 use lib.ListN.{length}
-use Rattle.words.specs.Refusals.{Refusal}
-use Rattle.words.specs.Refusals.{Good}
+use Rattle.words.specs.Refusals.{Refusal, Good}
 use Rattle.words.proofs.Refusals.{and_next, and_stop}
 use Rattle.std.specs.Prelude.{Result, Ok, Err}
 use Rattle.words.specs.Tab.{over}

@@ -6,7 +6,6 @@ use native.Mathlib.Omega.{arith}
 use lib.ListN.{length, take, drop, length-drop, drop_of_length-le}
 use lib.Seq.{take_at, drop_at, take_all, take-add, length-take-le}
 use borrow.Rule.Slice.PartMut.{mid_of, put_mid}
-use Rattle.words.specs.Refusals.{Check}
 use Rattle.words.specs.Tab.{over}
 use Rattle.packing.specs.Packed.{packed, packed_into}
 use Rattle.words.proofs.Tab.{over_none, take-over}
@@ -18,7 +17,7 @@ use Rattle.meaning.specs.Lengths.{Recorded}
 use Rattle.meaning.proofs.Recorded.{recorded_one}
 use Rattle.numbers.specs.declared.Numbers.{Numbers}
 use Rattle.lists.specs.Lists.{net}
-use Rattle.words.specs.Refusals.{Good}
+use Rattle.words.specs.Refusals.{Refusal, Check, Good}
 use Rattle.witness.specs.Answers.{window_check, part, Answered}
 use Rattle.witness.proofs.Windows.{part_count}
 use Rattle.witness.proofs.Writes.{window_sane, window_path}

@@ -1,7 +1,6 @@
 -- The C calls: what they answer, and every byte that they leave, for every input. Assumes nothing.
 use Rattle.std.specs.Prelude.{◌≡◌, List, ℕ, ◌+◌, ◌*◌, ◌/◌, ◌%◌, ◌^◌, min, length, eqb, Result, Ok, Err}
-use Rattle.words.specs.Refusals.{Refusal}
-use Rattle.words.specs.Refusals.{must, ◌and_then◌, Check, Good, number_of}
+use Rattle.words.specs.Refusals.{Refusal, must, ◌and_then◌, Check, Good, number_of}
 use Rattle.words.specs.Tab.{over}
 use Rattle.words.specs.declared.Reason.TheVariants.{WrongCount}
 use Rattle.packing.specs.Packed.{unpacked, packed}

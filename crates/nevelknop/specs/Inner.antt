@@ -1,7 +1,6 @@
 -- What the inner functions promise. Assumes nothing.
 use Rattle.std.specs.Prelude.{◌≡◌, List, ◌++◌, ℕ, ◌*◌, ◌/◌, ◌^◌, ◌<◌, length, take, drop, Result, Ok, Err}
-use Rattle.words.specs.Refusals.{Refusal}
-use Rattle.words.specs.Refusals.{◌and_then◌, Check, Good}
+use Rattle.words.specs.Refusals.{Refusal, ◌and_then◌, Check, Good}
 use Rattle.words.specs.Tab.{over}
 use Rattle.packing.specs.Packed.{packed, packed_into}
 use Rattle.meaning.specs.Net.{Net}

@@ -7,8 +7,7 @@ use Prim.Native.Nat.{ℕ, ◌*◌, ◌≤◌, ◌<◌}
 use native.Mathlib.Omega.{arith}
 use native.Mathlib.Nat.{mul-le-mul}
 use Rattle.std.specs.Prelude.{Err}
-use Rattle.words.specs.Refusals.{Refusal}
-use Rattle.words.specs.Refusals.{refused, Check, Good}
+use Rattle.words.specs.Refusals.{Refusal, refused, Check, Good}
 use Rattle.words.proofs.Refusals.{and_good, only_must, and_first, and_second}
 use Rattle.words.specs.declared.Reason.{Reason}
 use Rattle.words.specs.declared.Reason.TheVariants.{TooShort}

@@ -12,8 +12,7 @@ use lib.Dec.{eqb}
 use borrow.Author.Tests.{eqb-true, eqb-false}
 use borrow.Table.Steps.{cases}
 use Rattle.std.specs.Prelude.{Err}
-use Rattle.words.specs.Refusals.{Check, Good}
-use Rattle.words.specs.Refusals.{Refusal}
+use Rattle.words.specs.Refusals.{Refusal, Check, Good}
 use Rattle.words.proofs.Tab.{length-fill, get_or-fill, drop-fill}
 use Rattle.key.specs.Keys.{EMPTY, key}
 use Rattle.meaning.specs.Net.{Net, Edge, LabelRule, word}

@@ -9,8 +9,7 @@ use lib.ListN.{length, get_or}
 use lib.Dec.{eqb, ltb}
 use borrow.Author.Tests.{ltb-true, ltb-false, eqb-false, not-true, lt-ltb, ne_eqb}
 use borrow.Table.Steps.{cases}
-use Rattle.words.specs.Refusals.{Refusal}
-use Rattle.words.specs.Refusals.{must, Good}
+use Rattle.words.specs.Refusals.{Refusal, must, Good}
 use Rattle.words.proofs.Refusals.{must_good, and_good, and_next, and_stop}
 use Rattle.std.specs.Prelude.{Result, Err}
 use Rattle.words.specs.declared.Reason.TheVariants.{WrongArgument}

@@ -8,7 +8,6 @@ use Prim.Native.Nat.{ℕ, ◌+◌, ◌≤◌, ◌<◌}
 use native.Mathlib.Omega.{arith}
 use lib.ListN.{length}
 use Rattle.words.proofs.Refusals.{must_good, and_good}
-use Rattle.words.specs.Refusals.{Check, Good}
 use Rattle.words.specs.declared.Reason.TheVariants.{WrongCell, TooHigh}
 use Rattle.key.specs.Keys.{EMPTY, height_of}
 use Rattle.meaning.specs.Net.{Net, Sane}
@@ -28,7 +27,7 @@ use Rattle.lists.specs.Lists.{net}
 use Rattle.lists.proofs.Right.{RightLists, sane}
 use Rattle.start.specs.Calls.{StartCall}
 use Rattle.start.proofs.Order.{start_good}
-use Rattle.words.specs.Refusals.{Refusal}
+use Rattle.words.specs.Refusals.{Refusal, Check, Good}
 use Rattle.step.specs.Entering.{step_answer}
 use Rattle.step.specs.Calls.{usable_check, height_check, step_cells_check, step_check, step_of, Accepts, asked, Calls, none, call}
 use Rattle.step.specs.declared.Ask.{Ask}

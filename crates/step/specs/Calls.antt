@@ -1,7 +1,6 @@
 -- The public step: what it answers and leaves, for every input; and sequences of accepted steps. Assumes nothing.
 use Rattle.std.specs.Prelude.{◌≡◌, List, [], ◌∷◌, map, Bool, not, ◌&&◌, ℕ, ◌/◌, length, get_or, eqb, ltb, Result, Ok, Err}
-use Rattle.words.specs.Refusals.{Refusal}
-use Rattle.words.specs.Refusals.{must, ◌and_then◌, Check}
+use Rattle.words.specs.Refusals.{Refusal, must, ◌and_then◌, Check}
 use Rattle.words.specs.declared.Reason.TheVariants.{WrongCell, TooHigh, WrongArgument}
 use Rattle.meaning.specs.Net.{word}
 use Rattle.meaning.specs.Steps.{Step, target_of, left_of, right_of, step, wins, usable, too_high}

@@ -1,7 +1,6 @@
 -- A step's candidate as a word, and what entering it answers and leaves: what the code's inner functions do. Assumes nothing.
 use Rattle.std.specs.Prelude.{List, Bool, not, ◌&&◌, ℕ, min, get_or, ltb, Result, Ok, Err}
-use Rattle.words.specs.Refusals.{Refusal}
-use Rattle.words.specs.Refusals.{must, Check}
+use Rattle.words.specs.Refusals.{Refusal, must, Check}
 use Rattle.words.specs.declared.Reason.TheVariants.{TooHigh}
 use Rattle.key.specs.Keys.{EMPTY, HIGHEST, height_of}
 use Rattle.meaning.specs.Steps.{Step, target_of, left_of, right_of, candidate}

@@ -7,8 +7,7 @@ use lib.ListN.{length, take}
 use borrow.Author.Tests.{leb-true}
 use Rattle.std.specs.Prelude.{Result, Ok, Err, MatchResult}
 use Rattle.words.specs.declared.Reason.TheVariants.{TooLarge}
-use Rattle.words.specs.Refusals.{Refusal}
-use Rattle.words.specs.Refusals.{Check, Good, number_of}
+use Rattle.words.specs.Refusals.{Refusal, Check, Good, number_of}
 use Rattle.words.proofs.Refusals.{must_good, and_good, and_next, and_stop}
 use Rattle.meaning.specs.Lengths.{depth}
 use Rattle.numbers.specs.declared.Numbers.{Numbers}

@@ -6,8 +6,7 @@ use native.Mathlib.Omega.{arith}
 use lib.ListN.{length, drop, length-drop}
 use borrow.Author.Tests.{le-leb}
 use Rattle.words.specs.declared.Reason.TheVariants.{TooShort}
-use Rattle.words.specs.Refusals.{Refusal}
-use Rattle.words.specs.Refusals.{Good}
+use Rattle.words.specs.Refusals.{Refusal, Good}
 use Rattle.words.proofs.Refusals.{must_good, and_good}
 use Rattle.meaning.proofs.Right.{final_right}
 use Rattle.numbers.specs.Numbers.{cells_of, room_check}

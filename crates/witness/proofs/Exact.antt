@@ -12,8 +12,7 @@ use borrow.Author.Tests.{ltb-true, ltb-false, lt-ltb, le-ltb, leb-true, leb-fals
 use borrow.Table.Steps.{cases}
 use Rattle.key.specs.Keys.{EMPTY}
 use Rattle.words.specs.declared.Reason.{Reason}
-use Rattle.words.specs.Refusals.{Refusal}
-use Rattle.words.specs.Refusals.{number_of, refused, must, ◌and_then◌, Check, Good}
+use Rattle.words.specs.Refusals.{Refusal, number_of, refused, must, ◌and_then◌, Check, Good}
 use Rattle.words.proofs.Refusals.{differs, must_good, must_given, must_next, three_given, and_good, and_assoc, Only, only_must, only_and, only_scan, and_first, and_past, and_second, LowestWrong, scan_must}
 use Rattle.words.specs.declared.Reason.TheVariants.{TooShort, WrongCell, NoPath, WrongArgument}
 use Rattle.meaning.specs.Table.{at, cell, cells}

@@ -7,10 +7,9 @@ use native.Mathlib.Nat.{ℕ_set}
 use lib.ListN.{length}
 use Rattle.std.specs.Prelude.{Result, Ok, Err}
 use Rattle.std.specs.Borrow.{Bor}
-use Rattle.words.specs.Refusals.{Refusal}
 use Rattle.words.specs.Tab.{over}
 use Rattle.words.proofs.Refusals.{good_bad, bad_same, and_good}
-use Rattle.words.specs.Refusals.{Check, Good}
+use Rattle.words.specs.Refusals.{Refusal, Check, Good}
 use Rattle.meaning.specs.Net.{Net, Sane}
 use Rattle.meaning.proofs.Recorded.{recorded_one}
 use Rattle.numbers.specs.declared.Numbers.{Numbers}

@@ -6,10 +6,9 @@ use native.Mathlib.Omega.{arith}
 use lib.ListN.{length}
 use Rattle.key.specs.Keys.{EMPTY}
 use Rattle.std.specs.Prelude.{Ok, Err}
-use Rattle.words.specs.Refusals.{Refusal}
 use Rattle.words.specs.Tab.{over}
 use Rattle.words.proofs.Refusals.{and_next, and_stop}
-use Rattle.words.specs.Refusals.{Good}
+use Rattle.words.specs.Refusals.{Refusal, Good}
 use Rattle.meaning.specs.Net.{Sane}
 use Rattle.meaning.specs.Table.{at}
 use Rattle.meaning.specs.Lengths.{HELD, Recorded}

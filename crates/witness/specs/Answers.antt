@@ -1,8 +1,7 @@
 -- What the table check and the witness answer; the order of the refusals is the text of a definition. Assumes nothing.
 use Rattle.std.specs.Prelude.{◌≡◌, List, ℕ, ◌/◌, ◌%◌, length, take, drop, ltb, Result, Ok, Err}
 use Rattle.key.specs.Keys.{EMPTY}
-use Rattle.words.specs.Refusals.{Refusal}
-use Rattle.words.specs.Refusals.{must, ◌and_then◌, scan, Check, Good}
+use Rattle.words.specs.Refusals.{Refusal, must, ◌and_then◌, scan, Check, Good}
 use Rattle.words.specs.Tab.{over}
 use Rattle.words.specs.declared.Reason.TheVariants.{TooShort, WrongCell, NoPath, WrongArgument}
 use Rattle.meaning.specs.Net.{Net}
