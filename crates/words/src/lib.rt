@@ -1,6 +1,5 @@
 // Numbers in lists of words: little-endian words in bytes at every size, and the refusals that checks give.
-// Every function is total, but that `scan` asks of its check that it can be called, and `from_u64` for a number that fits; and
-// each promise settles its answer.
+// Every function is total, but that `scan` asks of its check that it can be called; and each promise settles its answer.
 #![tactic(auto)]
 
 ghost use Rattle.std.specs.Prelude.{◌≡◌, ◌<◌, ℕ, Some};

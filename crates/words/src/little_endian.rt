@@ -2,7 +2,7 @@
 // written. Each promise is an equation, which settles the answer, since two words of one number are one (`one`), or every
 // byte of the lent slice.
 
-ghost use Rattle.std.specs.Prelude.{◌≡◌, ℕ, ◌+◌, ◌^◌, ◌<◌, ◌≤◌, List, map, slice_index, slice_set};
+ghost use Rattle.std.specs.Prelude.{◌≡◌, ℕ, ◌+◌, ◌%◌, ◌^◌, ◌<◌, ◌≤◌, List, map, slice_index, slice_set};
 ghost use Rattle.std.proofs.Common.{rules};
 ghost use Rattle.std.proofs.lemmas.Grind.{common_steps};
 ghost use Rattle.words.specs.Bytes.{le_at, put_le};
@@ -18,10 +18,9 @@ pub trait Word: Copy {
 
     const SIZE: usize;
 
-    // The word of number x.
+    // The word of number x, or of its lowest bytes where it has more than the word holds.
     fn from_u64(x: u64) -> Self
-        requires { x < 256 ^ SIZE }
-        ensures { value result ≡ x };
+        ensures { value result ≡ x % 256 ^ SIZE };
 
     // The number of a word.
     fn to_u64(self) -> u64
@@ -47,7 +46,7 @@ impl Word for u16 {
     const SIZE: usize = 2;
 
     fn from_u64(x: u64) -> u16 {
-        x as u16
+        (x % 65536) as u16
     }
 
     fn to_u64(self) -> u64 {
@@ -73,7 +72,7 @@ impl Word for u32 {
     const SIZE: usize = 4;
 
     fn from_u64(x: u64) -> u32 {
-        x as u32
+        (x % 4294967296) as u32
     }
 
     fn to_u64(self) -> u64 {
