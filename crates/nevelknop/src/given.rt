@@ -70,9 +70,10 @@ fn whole_records(rules: usize, edges: usize) -> Result<(), Refusal>
     must(edges % 6 == 0, Reason::WrongCount, 1)
 }
 
-// The checks that need no word. The limits come before the words are unpacked, since the local arrays hold no more.
+// The checks that need no word. They come before there is room for the words: the local arrays hold no more than the limits,
+// and a call that is refused here has none to clear.
 #[tactic(auto, using(words::proofs::Refusals::refusing))]
-fn counts_check(numbers: Numbers, rules: usize, edges: usize) -> Result<(), Refusal>
+pub(crate) fn counts_check(numbers: Numbers, rules: usize, edges: usize) -> Result<(), Refusal>
     ensures { result ≡ (bytes_check rules edges and_then limits_check numbers (rules / 2) (edges / 2)) }
 {
     whole_records(rules, edges)?;
@@ -109,12 +110,12 @@ impl ListWords {
         }
     }
 
-    // The lists that a call is given, or the first refusal that does not depend on the call.
+    // The lists that a call is given, whose counts are right, or the first refusal of them that does not depend on the call.
     pub(crate) fn lists(&mut self, given: ByteLists) -> Result<Lists, Refusal>
+        requires { (bytes_check (length given.rules.now) (length given.edges.now) and_then limits_check given.numbers (length given.rules.now / 2) (length given.edges.now / 2)) ≡ Good }
         ensures ok { IfOk result (λ l. (l.numbers ≡ given.entry.numbers) × ((l.rules.now ≡ words_of 2 given.entry.rules.now) × ((l.edges.now ≡ words_of 2 given.entry.edges.now) × (given_check given.entry.numbers given.entry.rules.now given.entry.edges.now ≡ Good)))) }
         ensures err { IfErr result (λ r. given_check given.entry.numbers given.entry.rules.now given.entry.edges.now ≡ Err r) }
     {
-        counts_check(given.numbers, given.rules.len(), given.edges.len())?;
         let rule_room = &mut self.rules;
         let edge_room = &mut self.edges;
         small_lists(

@@ -2,7 +2,7 @@
 ghost use Rattle.nevelknop.specs.Calls.{RunCall};
 ghost use Rattle.nevelknop.specs.Inner.{RunBack, Told};
 
-use crate::given::{ByteLists, CELLS, ListWords, unpack_front};
+use crate::given::{ByteLists, CELLS, ListWords, counts_check, unpack_front};
 use closure::run;
 use lists::Lists;
 use packing::pack;
@@ -31,6 +31,7 @@ pub(crate) fn run_bytes(
 ) -> Result<u32, Refusal>
     ensures { Told (RunCall given.entry.numbers given.entry.rules.now given.entry.edges.now table.old lengths.old table.new lengths.new) result }
 {
+    counts_check(given.numbers, given.rules.len(), given.edges.len())?;
     let mut words = ListWords::new();
     let lists = words.lists(given)?;
     run_lists(lists, table, lengths)

@@ -3,7 +3,7 @@ ghost use Rattle.std.specs.Prelude.{◌*◌, ◌≤◌, length};
 ghost use Rattle.nevelknop.specs.Calls.{cell_words, WitnessCall};
 ghost use Rattle.nevelknop.specs.Inner.{OneWindow, PathTold, Told, net_of_path};
 
-use crate::given::{ByteLists, CELLS, ListWords, unpack_front};
+use crate::given::{ByteLists, CELLS, ListWords, counts_check, unpack_front};
 use lists::Lists;
 use numbers::room;
 use packing::pack;
@@ -74,6 +74,7 @@ pub(crate) fn witness_bytes(
 ) -> Result<u32, Refusal>
     ensures { Told (WitnessCall given.entry.numbers given.entry.rules.now given.entry.edges.now at.a at.i at.j table.now lengths.now path.old path.new) result }
 {
+    counts_check(given.numbers, given.rules.len(), given.edges.len())?;
     let mut words = ListWords::new();
     let lists = words.lists(given)?;
     witness_lists(lists, at, table, lengths, path)

@@ -1,9 +1,18 @@
 -- `nevelknop::running::run_bytes` meets its contract: the lists' first refusal, or the run. Assumes nothing.
+use mathlib.Core.Path.{◌≡◌, sym, ◌∙◌}
 use Rattle.words.proofs.Refusals.{handed_on}
 use Rattle.std.proofs.Common.{rules}
 use Rattle.nevelknop.proofs.Lent.{Bytes}
+use Rattle.nevelknop.proofs.Orders.{counts_bad}
 use Rattle.nevelknop.proofs.Told.{run_refused, run_told}
 use Rattle.nevelknop.proofs.running.run_bytes.Goals as goal
+
+pub returns-in_err-counts_check : goal.returns-in_err-counts_check
+returns-in_err-counts_check c =
+    let a = c.args in
+    rw (handed_on _ c.from_residual.ensures.1)
+    (run_refused a.given.numbers a.given.rules.now a.given.edges.now _ _
+    (counts_bad a.given.numbers a.given.rules.now a.given.edges.now (sym c.counts_check.ensures ∙ c.in_err-counts_check.was)))
 
 pub returns-in_err-lists : goal.returns-in_err-lists
 returns-in_err-lists c =

@@ -1,7 +1,16 @@
 -- `nevelknop::walking::witness_bytes` meets its contract: the lists' first refusal, or the witness. Assumes nothing.
+use mathlib.Core.Path.{◌≡◌, sym, ◌∙◌}
 use Rattle.words.proofs.Refusals.{handed_on}
+use Rattle.nevelknop.proofs.Orders.{counts_bad}
 use Rattle.nevelknop.proofs.Told.{witness_refused, witness_told}
 use Rattle.nevelknop.proofs.walking.witness_bytes.Goals as goal
+
+pub returns-in_err-counts_check : goal.returns-in_err-counts_check
+returns-in_err-counts_check c =
+    let a = c.args in
+    rw (handed_on _ c.from_residual.ensures.1)
+    (witness_refused a.given.numbers a.given.rules.now a.given.edges.now _ _ _ _ _ _
+    (counts_bad a.given.numbers a.given.rules.now a.given.edges.now (sym c.counts_check.ensures ∙ c.in_err-counts_check.was)))
 
 pub returns-in_err-lists : goal.returns-in_err-lists
 returns-in_err-lists c =

@@ -1,25 +1,18 @@
 -- `nevelknop::given::ListWords::lists` meets its contract: 5 and 4 by the bytes, the rest by the words. Assumes nothing.
-use mathlib.Core.Path.{◌≡◌, sym, ◌∙◌}
+use mathlib.Core.Path.{◌≡◌, ◌∙◌}
 use native.Mathlib.Omega.{arith}
 use lib.ListN.{length}
-use Rattle.words.proofs.Refusals.{handed_on}
 use Rattle.nevelknop.specs.Calls.{words_of}
-use Rattle.nevelknop.proofs.Orders.{counts_bad, counts_good, counted}
+use Rattle.nevelknop.proofs.Orders.{counts_good, counted}
 use Rattle.nevelknop.proofs.Lent.{lists_front}
 use Rattle.nevelknop.proofs.given.ListWords.lists.Goals as goal
-
-pub returns-in_err-counts_check : goal.returns-in_err-counts_check
-returns-in_err-counts_check c =
-    let a = c.args in
-    rw (handed_on _ c.from_residual.ensures.1)
-    (record { ok = tt; err = counts_bad a.given.numbers a.given.rules.now a.given.edges.now (sym c.counts_check.ensures ∙ c.in_err-counts_check.was) })
 
 pub returns : goal.returns
 returns c =
     let a = c.args in
     let many : length a.self.now.rules ≡ 768 = omega arith in
     let more : length a.self.now.edges ≡ 12288 = omega arith in
-    let good = sym c.counts_check.ensures ∙ c.in_ok-counts_check.was in
+    let good = c.requires in
     let few = counted _ _ _ good in
     let er : c.unpack_front.result.now ≡ words_of 2 a.given.rules.now = c.unpack_front.ensures ∙ rw many (lists_front 2 a.given.rules.now 768 few.few_rules) in
     let ee : c.unpack_front-2.result.now ≡ words_of 2 a.given.edges.now = c.unpack_front-2.ensures ∙ rw more (lists_front 2 a.given.edges.now 12288 few.few_edges) in
