@@ -5,7 +5,7 @@ use mathlib.Core.Logic.{◌⊎◌, inl, inr}
 use mathlib.Core.Bool.{Bool, true, false}
 use Prim.Native.Nat.{ℕ, ◌+◌, ◌*◌, ◌/◌, ◌%◌, ◌≤◌, ◌<◌}
 use native.Mathlib.Omega.{arith}
-use native.Mathlib.Nat.{mul-le-mul, div-add-mod', div-lt_iff_lt-mul, mod-lt}
+use native.Mathlib.Nat.{add-mul, mul-le-mul, div-add-mod', div-lt_iff_lt-mul, mod-lt}
 use native.Mathlib.Decide.{ℕ_discrete}
 use lib.ListN.{get_or}
 use lib.Dec.{ltb}
@@ -35,6 +35,11 @@ cell_same n A A' i i' j j' hi hi' hj hj' e =
 pub cell_in : (n m A i j : ℕ) → A < m → i < n → j < n → cell n A i j < m * n * n
 unfolding cell
 cell_in n m A i j hA hi hj = digits_lt (digits_lt hA hi) hj
+
+-- cell c of a nonterminal stands c behind its first
+pub cell_behind : (n A c : ℕ) → cell n A (c / n) (c % n) ≡ cell n A 0 0 + c
+unfolding cell
+cell_behind n A c = omega (arith, add-mul (A * n) (c / n) n, div-add-mod' c n, add-mul (A * n) 0 n)
 
 -- each number below the count of cells is a cell's
 pub record CellOf (n m c : ℕ) : Type 0 where

@@ -8,6 +8,7 @@ use native.Mathlib.Omega.{arith}
 use lib.Arith.{digits_div, digits_mod}
 use Rattle.key.specs.Keys.{EMPTY, parts_of}
 use Rattle.key.specs.declared.Parts.{Parts}
+use Rattle.meaning.specs.Net.{Net}
 use Rattle.text.specs.declared.pen.Pen.{Pen}
 use Rattle.text.specs.declared.query.Query.{Query}
 use Rattle.text.specs.Text.{ascii, pair_head}
@@ -16,6 +17,12 @@ use Rattle.text.specs.Pen.{Penned}
 use Rattle.text.specs.Queried.{checked_numbers, key_at, length_at}
 use Rattle.text.specs.Penned.{TailOf, line_of, LinesOf, TailPenned, LinePenned, LinesPenned}
 use Rattle.text.proofs.Pens.{penned_none, penned_more}
+
+-- no more lines than cells
+pub lines_few : {g : Net} {t ls : List ℕ} {A c k : ℕ} {w : List ℕ} → Lines g t ls A c w k → k ≤ c
+lines_few Lines.none = omega arith
+lines_few (Lines.empty e x) = omega (arith, lines_few x)
+lines_few (Lines.pair h p x) = omega (arith, lines_few x)
 
 module _ (q : Query) where
   abbrev nodes : ℕ
@@ -62,19 +69,10 @@ module _ (q : Query) where
     penned = penned_more so.penned x.penned;
   }) (omega arith))
 
-  -- no more lines than cells
-  few : {c k : ℕ} {w : List ℕ} → LinesOf q c w k → k ≤ c
-  few Lines.none = omega arith
-  few (Lines.empty e x) = omega (arith, few x)
-  few (Lines.pair h p x) = omega (arith, few x)
-
-  pub lines_few : {c k : ℕ} {p r : Pen} → LinesPenned q c p r k → k ≤ c
-  lines_few s = few s.each
-
-  -- and no more than 256
+  -- no more than 256
   pub lines_more_few : {i j k : ℕ} {p r : Pen} → i < nodes → j < nodes
       → LinesPenned q (i * nodes + j) p r k → k < 256
   lines_more_few {i} {j} hi hj s =
       let row : i ≤ 15 = omega (arith, q.small) in
       let rows : i * nodes ≤ 15 * 16 = mul-le-mul row q.small in
-      omega (arith, lines_few s, q.small)
+      omega (arith, lines_few s.each, q.small)

@@ -61,8 +61,8 @@ module _ (q : Query) (i j : ℕ) (entry exit : List ℕ) (room : length entry �
           }
 
   -- a refused one has no room
-  pub tail_long : {s : Result ℕ Refusal} {r : Refusal} → 1024 ≤ length entry → s ≡ Err r → FinalQuery q → PairAt q i j → Answer s → 1024 < length_at q.checked q.head i j
-  tail_long {r = r} all e final_query cell w =
+  pub tail_long : {s : Result ℕ Refusal} {r : Refusal} → s ≡ Err r → FinalQuery q → PairAt q i j → Answer s → length entry < length_at q.checked q.head i j
+  tail_long {r = r} e final_query cell w =
       ⊎_elim
       (λ good. absurd (good_bad (sym good ∙ bad (rw e at w))))
       (λ none. ⊎_elim (λ l. omega arith) (λ l. omega arith) none.1)

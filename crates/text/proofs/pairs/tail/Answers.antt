@@ -2,6 +2,7 @@
 use mathlib.Core.Path.{refl, sym}
 use lib.Seq.{length-take-le}
 use borrow.Author.Tests.{leb-true}
+use Rattle.std.proofs.Math.Nat.{lt_of_le_of_lt}
 use Rattle.text.specs.Text.{ascii}
 use Rattle.text.specs.Pairs.{Tail}
 use Rattle.text.proofs.Tails.{tail_shown, tail_long}
@@ -23,5 +24,5 @@ pub returns-in-Err : goal.returns-in-Err
 unfolding ascii
 returns-in-Err c =
     let p = c.requires in
-    let s = tail_long c.args.query c.args.i c.args.j _ _ (leb-true _ 1024 refl) (leb-true 1024 _ refl) c.in-Err.is p.final_query p.pair_at c.write_path.ensures in
-    record { tail = _; of = Tail.long s; penned = c.letters.ensures }
+    let s = tail_long c.args.query c.args.i c.args.j _ _ (leb-true _ 1024 refl) c.in-Err.is p.final_query p.pair_at c.write_path.ensures in
+    record { tail = _; of = Tail.long (lt_of_le_of_lt (leb-true 1024 _ refl) s); penned = c.letters.ensures }
