@@ -16,7 +16,7 @@ enum Damage {
     Word(u16, u16, u16),
     // A block's type, records used and number. The type is a byte and no `Kind`, as in `head`.
     Head(u16, u8, u8, u16),
-    // A block's last word before its check, but not the check.
+    // The low half of a block's check.
     Sum(u16),
 }
 

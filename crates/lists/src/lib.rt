@@ -1,5 +1,5 @@
 // The engine's own checks of its numbers and lists: whole records, limits, each rule, each edge, in this order; and lists
-// that have passed them. Every function is total; the promise of each is the definition it names.
+// that have passed them. Every public function is total; the promise of each is the definition it names.
 #![tactic(auto)]
 
 ghost use Rattle.std.specs.Prelude.{◌≡◌, ◌/◌, ◌<◌, length, IfOk, IfErr, Err};

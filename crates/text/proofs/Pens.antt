@@ -41,12 +41,16 @@ sets_cut v w l p =
 pub penned_none : (p : Pen) → Penned p p []
 penned_none p = record { same = refl; is = refl; at = omega arith }
 
+-- the text keeps its length
+pub penned_same_length : {p q : Pen} {w : List ℕ} → Penned p q w → length q.text.now ≡ length p.text.now
+penned_same_length {p} {w = w} a = ap length a.is ∙ length-sets p.text.now p.at w
+
 -- one piece behind another
 pub penned_more : {p q r : Pen} {v w : List ℕ} → Penned p q v → Penned q r w → Penned p r (v ++ w)
 penned_more {p} {q} {v = v} {w = w} a b = record {
   same = b.same ∙ a.same;
   is = b.is ∙ rw (a.is, a.at) (sets_cut v w p.text.now p.at);
-  at = rw length-append (omega (arith, a.at, b.at, ap length a.is ∙ length-sets p.text.now p.at v));
+  at = rw length-append (omega (arith, a.at, b.at, penned_same_length a));
 }
 
 -- a whole text from the front on, with room for all of it
