@@ -17,7 +17,7 @@ returns-in_err-counts_check c =
 pub returns-in_err-lists : goal.returns-in_err-lists
 returns-in_err-lists c =
     let a = c.args in
-    rw (handed_on _ c.from_residual.ensures.1) (run_refused a.given.numbers a.given.rules.now a.given.edges.now _ _ c.in_err-lists.ensures.err)
+    rw (handed_on _ c.from_residual-in_err-lists.ensures.1) (run_refused a.given.numbers a.given.rules.now a.given.edges.now _ _ c.in_err-lists.ensures.err)
 
 pub returns : goal.returns
 returns c =
