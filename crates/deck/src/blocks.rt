@@ -1,6 +1,5 @@
 // Blocks: their sum and order, what they hold, the header's numbers, and where the records of a type begin.
-ghost use Rattle.std.specs.Prelude.{◌≡◌, ◌==◌, ◌+◌, ◌*◌, ◌-◌, ◌≤◌, ◌<◌, length, sum};
-ghost use Rattle.std.specs.List.{list_all};
+ghost use Rattle.std.specs.Prelude.{◌≡◌, ◌+◌, ◌*◌, ◌-◌, ◌≤◌, ◌<◌, length, sum};
 ghost use Rattle.words.specs.Refusals.{scan, Good};
 ghost use Rattle.deck.specs.Blocks.{blocks, type_number, right_sum, right_type, right_order, zeros_from, last_of_type, right_header, right_records, type_of, total as total_of, first_of};
 ghost use Rattle.deck.specs.Reads.{header_of, frame_check, fill_check};
@@ -25,12 +24,6 @@ fn sum_of(bytes: &[u8]) -> usize
     ensures { result ≡ sum bytes.now }
 {
     bytes.iter().map(|b| usize::from(*b)).sum()
-}
-
-fn are_zero(bytes: &[u8]) -> bool
-    ensures { result ≡ list_all (λ b. b == 0) bytes.now }
-{
-    bytes.iter().all(|b| *b == 0)
 }
 
 impl<'a> Block<'a> {
@@ -70,13 +63,14 @@ impl<'a> Block<'a> {
         must(self.has_right_order(), Reason::WrongOrder, self.position)
     }
 
-    // Its words from one on, and whatever stands behind them, are zero.
+    // Its words from one on, and whatever stands behind them, are zero: so is their sum, which takes fewer steps than a look at
+    // each byte.
     fn has_zeros_from(&self, w: usize) -> bool
         requires { w ≤ 252 }
         ensures { result ≡ zeros_from self.now.deck.now self.now.position w }
     {
         let start = self.position * BLOCK_BYTES;
-        are_zero(&self.deck[start + WORDS_AT + 2 * w..start + SUM_AT])
+        sum_of(&self.deck[start + WORDS_AT + 2 * w..start + SUM_AT]) == 0
     }
 
     fn is_last_of_type(&self) -> bool

@@ -1,6 +1,6 @@
 // Text on its way to the standard output, written out when the buffer is full and at the end. It takes every text: what cannot
 // be written is passed over. Not `println!`, whose proof rests on more of the C library than `io::write_all`.
-ghost use Rattle.std.specs.Prelude.{◌≡◌, ◌≤◌};
+ghost use Rattle.std.specs.Prelude.{◌≤◌};
 
 use std::fmt;
 use std::fmt::Write;
@@ -21,14 +21,6 @@ impl Out {
             len: 0,
         }
     }
-
-    fn flush(&mut self)
-        ensures { self.new.len ≡ 0 }
-    {
-        let all = &self.bytes[..];
-        io::write_all(1, &all[..self.len]);
-        self.len = 0;
-    }
 }
 
 impl Drop for Out {
@@ -40,13 +32,17 @@ impl Drop for Out {
 
 impl Write for Out {
     fn write_str(&mut self, s: &str) -> fmt::Result {
+        // A local count: the one in the struct would be stored again at each byte.
+        let mut len = self.len;
         for b in s.as_bytes() {
-            if self.len == CAPACITY {
-                self.flush();
+            if len == CAPACITY {
+                io::write_all(1, &self.bytes);
+                len = 0;
             }
-            self.bytes[self.len] = *b;
-            self.len += 1;
+            self.bytes[len] = *b;
+            len += 1;
         }
+        self.len = len;
         Ok(())
     }
 }
