@@ -10,7 +10,7 @@ use meaning::Rule;
 use numbers::{Numbers, between, limits};
 use words::{Reason, Refusal, must, scan};
 
-// Numbers and two lists that pass `check`: what an engine works on once it has asked.
+// Numbers and two lists that pass `check`: what an engine works on once it has asked, or who writes the struct has proved it.
 #[derive(Clone, Copy)]
 pub struct Lists<'a> {
     pub numbers: Numbers,

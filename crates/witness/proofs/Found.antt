@@ -46,7 +46,7 @@ module _ (edges : List ℕ) (i x j : ℕ) where
       (λ n. inr (q ∙ rw n, ltb-false _ _ n))
 
   module _ {e : ℕ} (q : Some e ≡ found_edge edges i x j) where
-    found_is : (lowest_edge edges i x j ≡ e) × (e < length edges / 3)
+    pub found_is : (lowest_edge edges i x j ≡ e) × (e < length edges / 3)
     found_is = ⊎_elim
         (λ h. let s : e ≡ lowest_edge edges i x j = cc in (sym s, rw s h.1))
         (λ h. absurd (let z : ◌≡◌ {A = ℕ} 0 1 = cc in omega arith))

@@ -1,5 +1,6 @@
 // Numbers in lists of words: little-endian words in bytes at every size, and the refusals that checks give.
-// Every function is total, but that `scan` asks of its check that it can be called; and each promise settles its answer.
+// Every function is total, but that `scan` asks of its check that it can be called; and each promise settles its answer, that of
+// `scan` where each call of its check has one.
 #![tactic(auto)]
 
 ghost use Rattle.std.specs.Prelude.{◌≡◌, ◌<◌, ℕ, Some};
