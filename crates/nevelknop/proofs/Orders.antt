@@ -19,7 +19,7 @@ use Rattle.numbers.specs.Numbers.{limits_check}
 use Rattle.lists.specs.Lists.{whole_check, lists_check}
 use Rattle.numbers.proofs.Right.{few_records}
 use Rattle.nevelknop.specs.Calls.{words_of, bytes_check, call_check}
-use Rattle.nevelknop.specs.Inner.{ready_check, given_check}
+use Rattle.nevelknop.specs.Inner.{counts_check, ready_check, given_check}
 
 pub length-unpacked : (k : ℕ) (s : List ℕ) (n : ℕ) → length (unpacked k s n) ≡ n
 unfolding unpacked
@@ -43,10 +43,7 @@ pub record Counted (rules edges : ℕ) : Type 0 where
   pub few_edges : edges / 2 ≤ 12288
 
 module _ (numbers : Numbers) (rules edges : ℕ) where
-  abbrev pub counts : Check
-  counts = bytes_check rules edges and_then limits_check numbers (rules / 2) (edges / 2)
-
-  pub counted : counts ≡ Good → Counted rules edges
+  pub counted : counts_check numbers rules edges ≡ Good → Counted rules edges
   counted e =
       let a = (and_good _ _).0 e in
       let w = whole rules edges a.0 in
@@ -85,11 +82,11 @@ module _ (numbers : Numbers) (rules edges : List ℕ) where
       rw (length-unpacked 2 rules (length rules / 2), length-unpacked 2 edges (length edges / 2))
       (and_next ((and_good _ _).1 ((must_good _ WrongCount 0).1 hr, (must_good _ WrongCount 1).1 he)) ∙ and_stop _ b)
 
-  pub counts_bad : {r : Refusal} → counts numbers (length rules) (length edges) ≡ Err r → given_check numbers rules edges ≡ Err r
+  pub counts_bad : {r : Refusal} → counts_check numbers (length rules) (length edges) ≡ Err r → given_check numbers rules edges ≡ Err r
   unfolding call_check
   counts_bad {r} e = ⊎_elim (λ b. and_stop _ b) (λ z. and_next z.0 ∙ and_stop _ (lists_bad (whole _ _ z.0) z.1)) ((and_bad _ _ r).0 e)
 
-  pub counts_good : counts numbers (length rules) (length edges) ≡ Good → given_check numbers rules edges ≡ ready_check numbers R E
+  pub counts_good : counts_check numbers (length rules) (length edges) ≡ Good → given_check numbers rules edges ≡ ready_check numbers R E
   unfolding call_check
   counts_good e = and_next ((and_good _ _).0 e).0 ∙ ap (λ c. lists_check numbers R E and_then c) (last_good _)
 

@@ -17,7 +17,7 @@ use Rattle.meaning.specs.Lengths.{Recorded}
 use Rattle.meaning.proofs.Recorded.{recorded_one}
 use Rattle.numbers.specs.declared.Numbers.{Numbers}
 use Rattle.lists.specs.Lists.{net}
-use Rattle.words.specs.Refusals.{Refusal, Check, Good}
+use Rattle.words.specs.Refusals.{Check, Good}
 use Rattle.witness.specs.Answers.{window_check, part, Answered}
 use Rattle.witness.proofs.Windows.{part_count}
 use Rattle.witness.proofs.Writes.{window_sane, window_path}

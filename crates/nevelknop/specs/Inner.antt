@@ -6,12 +6,16 @@ use Rattle.packing.specs.Packed.{packed, packed_into}
 use Rattle.meaning.specs.Net.{Net}
 use Rattle.meaning.specs.Lengths.{Recorded}
 use Rattle.numbers.specs.declared.Numbers.{Numbers}
-use Rattle.numbers.specs.Numbers.{large_check}
+use Rattle.numbers.specs.Numbers.{limits_check, large_check}
 use Rattle.lists.specs.Lists.{net, lists_check}
 use Rattle.closure.specs.Runs.{run_check, RunIs}
 use Rattle.witness.specs.Answers.{part, witness_check}
 use Rattle.witness.specs.declared.table.Held.{Held}
 use Rattle.nevelknop.specs.Calls.{words_of, cell_words, bytes_check, call_check, run_number, WitnessBytes}
+
+-- what lists of so many bytes are refused for before a word of them is read
+abbrev pub counts_check : Numbers → ℕ → ℕ → Check
+counts_check numbers rules edges = bytes_check rules edges and_then limits_check numbers (rules / 2) (edges / 2)
 
 -- what lists of words are refused for before the call's own checks
 abbrev pub ready_check : Numbers → List ℕ → List ℕ → Check

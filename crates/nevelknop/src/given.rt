@@ -1,11 +1,9 @@
 // What a call is given: three numbers and two lists in bytes. The lists' words go into local arrays.
 ghost use Rattle.std.specs.Prelude.{◌≡◌, ◌/◌, IfOk, IfErr, Err, length, min};
-ghost use Rattle.words.specs.Refusals.{◌and_then◌, Good};
+ghost use Rattle.words.specs.Refusals.{Good};
 ghost use Rattle.packing.specs.Packed.{unpacked};
-ghost use Rattle.numbers.specs.Numbers.{limits_check, large_check};
-ghost use Rattle.lists.specs.Lists.{lists_check};
 ghost use Rattle.nevelknop.specs.Calls.{given_numbers, bytes_check, words_of};
-ghost use Rattle.nevelknop.specs.Inner.{ready_check, given_check};
+ghost use Rattle.nevelknop.specs.Inner.{counts_check, ready_check, given_check};
 
 use lists::Lists;
 use numbers::{Numbers, large, limits};
@@ -74,7 +72,7 @@ fn whole_records(rules: usize, edges: usize) -> Result<(), Refusal>
 // and a call that is refused here has none to clear.
 #[tactic(auto, using(words::proofs::Refusals::refusing))]
 pub(crate) fn counts_check(numbers: Numbers, rules: usize, edges: usize) -> Result<(), Refusal>
-    ensures { result ≡ (bytes_check rules edges and_then limits_check numbers (rules / 2) (edges / 2)) }
+    ensures { result ≡ counts_check numbers rules edges }
 {
     whole_records(rules, edges)?;
     limits(numbers, rules / 2, edges / 2)
@@ -112,7 +110,7 @@ impl ListWords {
 
     // The lists that a call is given, whose counts are right, or the first refusal of them that does not depend on the call.
     pub(crate) fn lists(&mut self, given: ByteLists) -> Result<Lists, Refusal>
-        requires { (bytes_check (length given.rules.now) (length given.edges.now) and_then limits_check given.numbers (length given.rules.now / 2) (length given.edges.now / 2)) ≡ Good }
+        requires { counts_check given.numbers (length given.rules.now) (length given.edges.now) ≡ Good }
         ensures ok { IfOk result (λ l. (l.numbers ≡ given.entry.numbers) × ((l.rules.now ≡ words_of 2 given.entry.rules.now) × ((l.edges.now ≡ words_of 2 given.entry.edges.now) × (given_check given.entry.numbers given.entry.rules.now given.entry.edges.now ≡ Good)))) }
         ensures err { IfErr result (λ r. given_check given.entry.numbers given.entry.rules.now given.entry.edges.now ≡ Err r) }
     {

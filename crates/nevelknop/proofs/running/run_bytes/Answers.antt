@@ -1,5 +1,5 @@
--- `nevelknop::running::run_bytes` meets its contract: the lists' first refusal, or the run. Assumes nothing.
-use mathlib.Core.Path.{◌≡◌, sym, ◌∙◌}
+-- `nevelknop::running::run_bytes` meets its contract: the first refusal of the counts or the lists, or the run. Assumes nothing.
+use mathlib.Core.Path.{sym, ◌∙◌}
 use Rattle.words.proofs.Refusals.{handed_on}
 use Rattle.std.proofs.Common.{rules}
 use Rattle.nevelknop.proofs.Lent.{Bytes}

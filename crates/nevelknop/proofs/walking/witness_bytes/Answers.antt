@@ -1,5 +1,5 @@
--- `nevelknop::walking::witness_bytes` meets its contract: the lists' first refusal, or the witness. Assumes nothing.
-use mathlib.Core.Path.{◌≡◌, sym, ◌∙◌}
+-- `nevelknop::walking::witness_bytes` meets its contract: the first refusal of the counts or the lists, or the witness. Assumes nothing.
+use mathlib.Core.Path.{sym, ◌∙◌}
 use Rattle.words.proofs.Refusals.{handed_on}
 use Rattle.nevelknop.proofs.Orders.{counts_bad}
 use Rattle.nevelknop.proofs.Told.{witness_refused, witness_told}

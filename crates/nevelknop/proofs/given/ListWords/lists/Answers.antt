@@ -1,4 +1,4 @@
--- `nevelknop::given::ListWords::lists` meets its contract: 5 and 4 by the bytes, the rest by the words. Assumes nothing.
+-- `nevelknop::given::ListWords::lists` meets its contract: the counts are right, and the words decide the rest. Assumes nothing.
 use mathlib.Core.Path.{◌≡◌, ◌∙◌}
 use native.Mathlib.Omega.{arith}
 use lib.ListN.{length}
