@@ -1,14 +1,17 @@
 // Numbers in lists of words: little-endian words in bytes at every size, and the refusals that checks give.
-// Every function is total, but that `scan` asks of its check that it can be called; and each promise settles its answer, that of
-// `scan` where each call of its check has one.
+// Every function is total, but that `scan` asks of its check that it can be called, and a caller's own `Word` may ask that a
+// number fits it; and each promise settles its answer, that of `scan` where each call of its check has one, and that of `read`
+// at a `PlainWord`.
 #![tactic(auto)]
 
 ghost use Rattle.std.specs.Prelude.{◌≡◌, ◌<◌, ℕ, Some};
 ghost use Rattle.words.specs.Refusals.{must as must_of, number_of, text_of, ScanIs};
 
 mod little_endian;
+#[cfg(test)]
+mod tests;
 
-pub use crate::little_endian::{Word, read, write};
+pub use crate::little_endian::{PlainWord, Word, read, write};
 use std::fmt;
 
 // Why a call is refused, by the number that C and the report tell.

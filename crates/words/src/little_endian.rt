@@ -1,5 +1,5 @@
 // Little-endian words in bytes, at every size. Both functions are total: a byte past the end reads as 0 and is not
-// written. Each promise is an equation, which settles the answer, since two words of one number are one (`one`), or every
+// written. Each promise is an equation, which settles the number of the answer, and so the answer of a plain word, or every
 // byte of the lent slice.
 
 ghost use Rattle.std.specs.Prelude.{◌≡◌, ℕ, ◌+◌, ◌%◌, ◌^◌, ◌<◌, ◌≤◌, List, map, slice_index, slice_set};
@@ -7,7 +7,7 @@ ghost use Rattle.std.proofs.Common.{rules};
 ghost use Rattle.std.proofs.lemmas.Grind.{common_steps};
 ghost use Rattle.words.specs.Bytes.{le_at, put_le};
 
-// An unsigned number of SIZE bytes.
+// An unsigned number of SIZE bytes. A caller's own type may keep more beside it.
 pub trait Word: Copy {
     ghost SIZE: { ℕ };
 
@@ -18,9 +18,10 @@ pub trait Word: Copy {
 
     const SIZE: usize;
 
-    // The word of number x, or of its lowest bytes where it has more than the word holds.
+    // The word of number x, which fits. At u16, u32 and u64 nothing is asked of x: there it is `from_low_bytes`.
     fn from_u64(x: u64) -> Self
-        ensures { value result ≡ x % 256 ^ SIZE };
+        requires { x < 256 ^ SIZE }
+        ensures { value result ≡ x };
 
     // The number of a word.
     fn to_u64(self) -> u64
@@ -31,8 +32,15 @@ pub trait Word: Copy {
     ghost small: { SIZE ≤ 8 };
 
     ghost each: { (l : List Self) → values l ≡ map value l };
+}
 
-    ghost one: { (x y : Self) → value x ≡ value y → x ≡ y };
+// A word that is its number and no more, and that every number makes: u16, u32 and u64.
+pub trait PlainWord: Word {
+    // The word of number x, or of its lowest bytes where it has more than the word holds.
+    fn from_low_bytes(x: u64) -> Self
+        ensures { Self.value result ≡ x % 256 ^ Self.SIZE };
+
+    ghost one: { (x y : Self) → Self.value x ≡ Self.value y → x ≡ y };
 }
 
 // An impl for each size is written out: the gate takes none that a macro of the repository writes.
@@ -45,7 +53,9 @@ impl Word for u16 {
 
     const SIZE: usize = 2;
 
-    fn from_u64(x: u64) -> u16 {
+    fn from_u64(x: u64) -> u16
+        ensures { result ≡ x % 65536 }
+    {
         (x % 65536) as u16
     }
 
@@ -58,6 +68,12 @@ impl Word for u16 {
     ghost small = { Prim.search rules };
 
     ghost each = { Prim.search (rules, common_steps) };
+}
+
+impl PlainWord for u16 {
+    fn from_low_bytes(x: u64) -> u16 {
+        u16::from_u64(x)
+    }
 
     ghost one = { λ x y same. same };
 }
@@ -71,7 +87,9 @@ impl Word for u32 {
 
     const SIZE: usize = 4;
 
-    fn from_u64(x: u64) -> u32 {
+    fn from_u64(x: u64) -> u32
+        ensures { result ≡ x % 4294967296 }
+    {
         (x % 4294967296) as u32
     }
 
@@ -84,6 +102,12 @@ impl Word for u32 {
     ghost small = { Prim.search rules };
 
     ghost each = { Prim.search (rules, common_steps) };
+}
+
+impl PlainWord for u32 {
+    fn from_low_bytes(x: u64) -> u32 {
+        u32::from_u64(x)
+    }
 
     ghost one = { λ x y same. same };
 }
@@ -97,7 +121,9 @@ impl Word for u64 {
 
     const SIZE: usize = 8;
 
-    fn from_u64(x: u64) -> u64 {
+    fn from_u64(x: u64) -> u64
+        ensures { result ≡ x }
+    {
         x
     }
 
@@ -110,6 +136,12 @@ impl Word for u64 {
     ghost small = { Prim.search rules };
 
     ghost each = { Prim.search (rules, common_steps) };
+}
+
+impl PlainWord for u64 {
+    fn from_low_bytes(x: u64) -> u64 {
+        u64::from_u64(x)
+    }
 
     ghost one = { λ x y same. same };
 }
