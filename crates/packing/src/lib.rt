@@ -4,6 +4,9 @@
 ghost use Rattle.std.specs.Prelude.{◌≡◌};
 ghost use Rattle.packing.specs.Packed.{unpacked_into, packed_into};
 
+#[cfg(test)]
+mod tests;
+
 use words::{Word, read, write};
 
 pub fn unpack<W: Word>(s: &[u8], ws: &mut [W])

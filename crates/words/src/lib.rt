@@ -8,8 +8,6 @@ ghost use Rattle.std.specs.Prelude.{◌≡◌, ◌<◌, ℕ, Some};
 ghost use Rattle.words.specs.Refusals.{must as must_of, number_of, text_of, ScanIs};
 
 mod little_endian;
-#[cfg(test)]
-mod tests;
 
 pub use crate::little_endian::{PlainWord, Word, read, write};
 use std::fmt;

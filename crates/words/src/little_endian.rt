@@ -18,7 +18,7 @@ pub trait Word: Copy {
 
     const SIZE: usize;
 
-    // The word of number x, which fits. At u16, u32 and u64 nothing is asked of x: there it is `from_low_bytes`.
+    // The word of number x, which fits. At u16, u32 and u64 nothing is asked of x, and of a larger one the lowest bytes are kept.
     fn from_u64(x: u64) -> Self
         requires { x < 256 ^ SIZE }
         ensures { value result ≡ x };
@@ -34,11 +34,17 @@ pub trait Word: Copy {
     ghost each: { (l : List Self) → values l ≡ map value l };
 }
 
-// A word that is its number and no more, and that every number makes: u16, u32 and u64.
+// A word that is its number and no more: u16, u32 and u64.
 pub trait PlainWord: Word {
     // The word of number x, or of its lowest bytes where it has more than the word holds.
     fn from_low_bytes(x: u64) -> Self
-        ensures { Self.value result ≡ x % 256 ^ Self.SIZE };
+        ensures { Self.value result ≡ x % 256 ^ Self.SIZE }
+    {
+        match 256u64.checked_pow(Self::SIZE as u32) {
+            Some(count) => Self::from_u64(x % count),
+            None => Self::from_u64(x),
+        }
+    }
 
     ghost one: { (x y : Self) → Self.value x ≡ Self.value y → x ≡ y };
 }
@@ -71,10 +77,6 @@ impl Word for u16 {
 }
 
 impl PlainWord for u16 {
-    fn from_low_bytes(x: u64) -> u16 {
-        u16::from_u64(x)
-    }
-
     ghost one = { λ x y same. same };
 }
 
@@ -105,10 +107,6 @@ impl Word for u32 {
 }
 
 impl PlainWord for u32 {
-    fn from_low_bytes(x: u64) -> u32 {
-        u32::from_u64(x)
-    }
-
     ghost one = { λ x y same. same };
 }
 
@@ -139,10 +137,6 @@ impl Word for u64 {
 }
 
 impl PlainWord for u64 {
-    fn from_low_bytes(x: u64) -> u64 {
-        u64::from_u64(x)
-    }
-
     ghost one = { λ x y same. same };
 }
 
