@@ -47,12 +47,11 @@ fn is(right: bool, what: &'static str) -> Result<(), &'static str> {
 
 #[test]
 fn numbers_that_fit() -> Result<(), &'static str> {
+    let x = 0x0102_0304_0506_0708;
     is(u16::from_u64(0x0102) == 0x0102, "u16")?;
     is(u32::from_u64(0x0102_0304) == 0x0102_0304, "u32")?;
-    is(
-        u64::from_u64(0x0102_0304_0506_0708) == 0x0102_0304_0506_0708,
-        "u64",
-    )?;
+    is(u64::from_u64(x) == x, "u64")?;
+    is(u64::from_low_bytes(x) == x, "all bytes of a u64")?;
     is(Marked::from_u64(0x0102).bits == 0x0102, "Marked")
 }
 
@@ -60,12 +59,12 @@ fn numbers_that_fit() -> Result<(), &'static str> {
 fn numbers_that_do_not_fit() -> Result<(), &'static str> {
     let x = 0x0102_0304_0506_0708;
     is(u16::from_u64(x) == 0x0708, "u16")?;
+    is(u32::from_u64(x) == 0x0506_0708, "u32")?;
     is(u16::from_low_bytes(x) == 0x0708, "the low bytes of a u16")?;
     is(
         u32::from_low_bytes(x) == 0x0506_0708,
         "the low bytes of a u32",
-    )?;
-    is(u64::from_low_bytes(x) == x, "the low bytes of a u64")
+    )
 }
 
 #[test]
@@ -80,8 +79,12 @@ fn a_word_of_the_caller() -> Result<(), &'static str> {
     write(&mut bytes, 1, marked);
     is(bytes == [0, 2, 3, 0], "write")?;
     let mut words = [marked; 2];
-    unpack(&[1, 2, 3], &mut words);
-    is(words[0].bits == 0x0201 && words[1].bits == 0x0302, "unpack")?;
-    pack(&[marked; 2], &mut bytes);
-    is(bytes == [2, 3, 2, 3], "pack")
+    unpack(&[1, 2, 9], &mut words);
+    is(words[0].bits == 0x0201 && !words[0].mark, "unpack")?;
+    is(
+        words[1].bits == 0x0302 && words[1].mark,
+        "unpack, past the bytes",
+    )?;
+    pack(&words, &mut bytes);
+    is(bytes == [1, 2, 2, 3], "pack")
 }

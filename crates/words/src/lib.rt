@@ -1,7 +1,7 @@
 // Numbers in lists of words: little-endian words in bytes at every size, and the refusals that checks give.
 // Every function is total, but that `scan` asks of its check that it can be called, and a caller's own `Word` may ask that a
-// number fits it; and each promise settles its answer, that of `scan` where each call of its check has one, and that of `read`
-// at a `PlainWord`.
+// number fits it; and each promise settles its answer, that of `scan` where each call of its check has one, and those that make
+// a word of any size at a `PlainWord`.
 #![tactic(auto)]
 
 ghost use Rattle.std.specs.Prelude.{◌≡◌, ◌<◌, ℕ, Some};

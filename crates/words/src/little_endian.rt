@@ -18,7 +18,8 @@ pub trait Word: Copy {
 
     const SIZE: usize;
 
-    // The word of number x, which fits. At u16, u32 and u64 nothing is asked of x, and of a larger one the lowest bytes are kept.
+    // The word of number x, which fits. At u16, u32 and u64 nothing is asked of x, and of a larger one the lowest bytes are
+    // kept.
     fn from_u64(x: u64) -> Self
         requires { x < 256 ^ SIZE }
         ensures { value result ≡ x };
