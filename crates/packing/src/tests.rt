@@ -75,16 +75,20 @@ fn a_word_of_the_caller() -> Result<(), &'static str> {
     };
     let front: Marked = read(&[1, 2, 3], 1);
     is(front.bits == 0x0302, "read")?;
-    let mut bytes = [0; 4];
+    let mut bytes = [0; 5];
     write(&mut bytes, 1, marked);
-    is(bytes == [0, 2, 3, 0], "write")?;
-    let mut words = [marked; 2];
-    unpack(&[1, 2, 9], &mut words);
+    is(bytes == [0, 2, 3, 0, 0], "write")?;
+    let mut words = [marked; 3];
+    unpack(&[1, 2, 4, 5, 9], &mut words);
     is(words[0].bits == 0x0201 && !words[0].mark, "unpack")?;
     is(
-        words[1].bits == 0x0302 && words[1].mark,
+        words[1].bits == 0x0504 && !words[1].mark,
+        "unpack, the next",
+    )?;
+    is(
+        words[2].bits == 0x0302 && words[2].mark,
         "unpack, past the bytes",
     )?;
     pack(&words, &mut bytes);
-    is(bytes == [1, 2, 2, 3], "pack")
+    is(bytes == [1, 2, 4, 5, 0], "pack")
 }
